@@ -1,0 +1,3 @@
+-- Laws that proofs of this crate and of others cite.
+pub mod Nan
+pub mod Sums
