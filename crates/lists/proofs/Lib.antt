@@ -1,0 +1,2 @@
+-- Laws of the lists of specs/, for any type of entries.
+pub mod Laws

@@ -1,0 +1,1 @@
+// General definitions and laws on lists: specs/ and proofs/. There is no code.

@@ -1,0 +1,52 @@
+-- Document 01, "Worked by hand", the examples marked M: what a rule gives, beside what the document says, as one table with one statement. Each row applies the very definition
+-- that the contracts cite. A float stands as its binary32 pattern.
+use mathlib.Core.Bool.{Bool, true, false, _&&_, cond}
+use mathlib.Core.List.{List, [], _∷_, map}
+use Prim.Native.Nat.{ℕ}
+use lib.Dec.{T, eqb}
+use lib.Ieee.{binary32, size, add, sub, ofBits, toBits, nanBits}
+use Rattle.half.specs.Half.{narrowed, widened}
+use Rattle.sqrt.specs.Root.{rootBits, nearestRoot, last, reaches}
+use Rattle.half.specs.Binary.{magnitude, near, kept}
+use Rattle.rhdh.specs.Signs.{start, step, xorLeft, xorRight, output, sign}
+use Rattle.rhdh.specs.Padded.{isPowerOfTwo, exponent}
+use Rattle.rhdh.specs.Fwht.{fwht, pass, entry}
+use Rattle.rhdh.specs.Binary32.{fwht32}
+
+pub record Row : Type 0 where
+  pub gives : List ℕ
+  pub says : List ℕ
+
+unfoldable pub same : List ℕ → List ℕ → Bool
+same [] [] = true
+same [] (y ∷ ys) = false
+same (x ∷ xs) [] = false
+same (x ∷ xs) (y ∷ ys) = eqb x y && same xs ys
+
+-- every row gives what the document says
+unfoldable pub agree : List Row → Bool
+agree [] = true
+agree (r ∷ rs) = same (r .gives) (r .says) && agree rs
+
+unfoldable pub rows : List Row
+rows =
+    -- seed 1: first output 0x47E4CE4B896CDD1D, sign -1
+    record { gives = output (step (start 1)) ∷ toBits binary32 (sign (output (step (start 1)))) ∷ []; says = 0x47E4_CE4B_896C_DD1D ∷ 0xBF80_0000 ∷ [] }
+    -- fwht of 1,2,3,4: 10,-2,-4,0
+    ∷ record {
+      gives = map (toBits binary32) (fwht32 (map (ofBits binary32) (0x3F80_0000 ∷ 0x4000_0000 ∷ 0x4040_0000 ∷ 0x4080_0000 ∷ [])));
+      says = 0x4120_0000 ∷ 0xC000_0000 ∷ 0xC080_0000 ∷ 0 ∷ [];
+    }
+    -- halves: 1 is 0x3C00; 65504 is 0x7BFF; 65520 is 0x7C00; 2^-25 is 0; 0x0001 reads 2^-24
+    ∷ record {
+      gives = map narrowed (0x3F80_0000 ∷ 0x477F_E000 ∷ 0x477F_F000 ∷ 0x3300_0000 ∷ []);
+      says = 0x3C00 ∷ 0x7BFF ∷ 0x7C00 ∷ 0 ∷ [];
+    }
+    ∷ record { gives = widened 1 ∷ []; says = 0x3380_0000 ∷ [] }
+    -- root of 0.25 is 0.5
+    ∷ record { gives = rootBits 0x3E80_0000 ∷ []; says = 0x3F00_0000 ∷ [] }
+    ∷ []
+
+pub worked : T (agree rows)
+unfolding rows agree same narrowed widened magnitude near kept rootBits nearestRoot last reaches start step xorLeft xorRight output sign isPowerOfTwo exponent fwht pass entry size add sub ofBits toBits nanBits
+worked = tt
