@@ -3,11 +3,11 @@ use mathlib.Core.Path.{_≡_, refl, sym, ap, _∙_}
 use mathlib.Core.Logic.{_⊎_, inl, inr}
 use mathlib.Core.List.{List, [], _∷_, _++_, append-nil}
 use Prim.Native.Nat.{ℕ, zero, suc, _+_, _≤_, _<_}
-use native.Mathlib.Nat.{suc-inj, not-suc-le-zero, le-of-suc-le-suc, eq-or-lt-of-le}
+use native.Mathlib.Nat.{suc-inj, zero-add, not-suc-le-zero, le-of-suc-le-suc, le-antisymm, eq-or-lt-of-le}
 use native.Mathlib.Numerals.{add-one}
 use native.Mathlib.Omega.{arith}
-use lib.ListN.{length, getD, drop, set, length-append, length-drop, List·getD-append}
-use lib.Seq.{append-snoc, drop-cons, drop-length, getD-at, set-at, ext-getD}
+use lib.ListN.{length, getD, take, drop, set, length-append, length-drop, List·getD-append}
+use lib.Seq.{append-snoc, drop-cons, drop-length, getD-at, set-at, ext-getD, take-length, paste-suc}
 use Rattle.lists.specs.Lists.{tab, zipWith, over}
 
 module _ {ℓ} {A : Type ℓ} where
@@ -51,6 +51,18 @@ module _ {ℓ} {A : Type ℓ} where
   unfolding over
   over-more f i xs h =
       rw (add-one i, length-tab f (suc i), length-tab f i, drop-cons xs i (f i), set-at (tab f i) _ _ (f i) i (length-tab f i)) (sym (append-snoc (tab f i) (f i) (drop (suc i) xs)))
+
+  -- the places of d once the first i entries of l are written over them, as a loop does
+  abbrev pub begun : List A → List A → ℕ → List A
+  begun l d i = take i l ++ drop i d
+
+  pub begun-next : (l d places : List A) (i : ℕ) (z x : A) → i < length d → i < length l → places ≡ begun l d i → x ≡ getD l i z →
+      set places i x ≡ begun l d (i + 1)
+  begun-next l d places i z x h k e g = rw (e, g, add-one i) (simp zero-add at (paste-suc d 0 l i z (rw zero-add h) k))
+
+  pub begun-all : (l d : List A) (i : ℕ) → i ≤ length l → length l ≤ i → begun l d i ≡ over l d
+  unfolding over
+  begun-all l d i h k = ap (begun l d) (le-antisymm h k) ∙ ap (λ (t : List A). t ++ drop (length l) d) (take-length l)
 
 module _ {ℓ ℓ′ ℓ″} {A : Type ℓ} {B : Type ℓ′} {C : Type ℓ″} (f : A → B → C) where
   zip-append : (xs : List A) (ys : List B) (a : A) (b : B) → length xs ≡ length ys → zipWith f (xs ++ (a ∷ [])) (ys ++ (b ∷ [])) ≡ zipWith f xs ys ++ (f a b ∷ [])

@@ -1,0 +1,5 @@
+pub mod Order
+pub mod Sound
+pub mod Widths
+pub mod Quantized
+pub mod Places

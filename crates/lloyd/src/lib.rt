@@ -1,0 +1,216 @@
+// The Lloyd-Max quantizer for N(0,1) at 4, 5 and 6 bits: levels (centroids), the boundaries between them, and codes.
+pub mod tables;
+
+use tables::BOUNDARIES_4BIT;
+use tables::BOUNDARIES_5BIT;
+use tables::BOUNDARIES_6BIT;
+use tables::CENTROIDS_4BIT;
+use tables::CENTROIDS_5BIT;
+use tables::CENTROIDS_6BIT;
+ghost use mathlib.Core.Path.{_≡_};
+ghost use mathlib.Core.List.{[], map};
+ghost use mathlib.Core.Bool.{cond, true};
+ghost use Prim.Native.Nat.{_≤_};
+ghost use lib.ListN.{length};
+ghost use lib.Ieee.{lt};
+ghost use Rattle.lists.specs.Lists.{over};
+ghost use Rattle.lloyd.specs.Tables.{byWidth, levelsOf, centroidsOf, boundariesOf, zeros64, padded};
+ghost use Rattle.lloyd.specs.Quantizer.{quantized, centroidAt, coded};
+ghost use Rattle.lloyd.specs.Sound.{Rises};
+
+// How many levels a width has. Any other width than these three has none.
+pub fn levels(bits: u8) -> usize
+    ensures { λ r. ⌜ r ≡ levelsOf bits ⌝ }
+{
+    match bits {
+        4 => 16,
+        5 => 32,
+        6 => 64,
+        _ => 0,
+    }
+}
+
+// 64 places that hold +0. As a function of its own it keeps the long literal out of its callers' proofs.
+fn zeros() -> [f32; 64]
+    ensures { λ r. ⌜ r ≡ zeros64 ⌝ }
+{
+    [0.0; 64]
+}
+
+// A table in the first of 64 places, and +0 in the places past it.
+fn in_64_places(table: &[f32]) -> [f32; 64]
+    requires { ⌜ length (now table) ≤ 64 ⌝ }
+    ensures { λ r. ⌜ r ≡ padded (now (table .entry)) ⌝ }
+{
+    let mut places = zeros();
+    let mut i = 0;
+    while i < table.len() {
+        places[i] = table[i];
+        i += 1;
+    }
+    places
+}
+
+// Of three tables the one for a width, in 64 places, and +0 throughout at any other width.
+fn for_width(bits: u8, four: &[f32], five: &[f32], six: &[f32]) -> [f32; 64]
+    requires { ⌜ length (now four) ≤ 64 ⌝ }
+    requires { ⌜ length (now five) ≤ 64 ⌝ }
+    requires { ⌜ length (now six) ≤ 64 ⌝ }
+    ensures { λ r. ⌜ r ≡ padded (byWidth (now (four .entry)) (now (five .entry)) (now (six .entry)) [] bits) ⌝ }
+{
+    match bits {
+        4 => in_64_places(four),
+        5 => in_64_places(five),
+        6 => in_64_places(six),
+        _ => zeros(),
+    }
+}
+
+// The centroids of a width. They come by value, since a constant table is built anew at each use; a caller lends `&c[0..levels(bits)]`.
+pub fn centroids(bits: u8) -> [f32; 64]
+    ensures { λ r. ⌜ r ≡ padded (centroidsOf bits) ⌝ }
+{
+    for_width(bits, &CENTROIDS_4BIT, &CENTROIDS_5BIT, &CENTROIDS_6BIT)
+}
+
+// The boundaries of a width, one fewer than its centroids.
+pub fn boundaries(bits: u8) -> [f32; 64]
+    ensures { λ r. ⌜ r ≡ padded (boundariesOf bits) ⌝ }
+{
+    for_width(bits, &BOUNDARIES_4BIT, &BOUNDARIES_5BIT, &BOUNDARIES_6BIT)
+}
+
+// n where x is above the boundary b, else 0. The choice needs no jump.
+fn above(b: f32, x: f32, n: usize) -> usize
+    ensures { λ r. ⌜ r ≡ cond (lt b x) n 0 ⌝ }
+{
+    if x > b { n } else { 0 }
+}
+
+// The code of x over any boundaries, whether they rise or not.
+pub fn quantize_in(boundaries: &[f32], x: f32) -> usize
+    ensures { λ r. ⌜ r ≡ quantized (now (boundaries .entry)) x ⌝ }
+{
+    let mut code = 0;
+    let mut i = 0;
+    while i < boundaries.len() {
+        code += above(boundaries[i], x, 1);
+        i += 1;
+    }
+    code
+}
+
+// The centroid of a code in any table, and +0 where there is none.
+pub fn dequantize_in(centroids: &[f32], code: usize) -> f32
+    ensures { λ r. ⌜ r ≡ centroidAt (now (centroids .entry)) code ⌝ }
+{
+    if code < centroids.len() {
+        centroids[code]
+    } else {
+        0.0
+    }
+}
+
+// The code of x over n boundaries that rise: at least `code` and at most `code + left`, and each turn halves `left`. At 15, 31 and 63 the comparisons
+// are those of the Rust's search.
+fn halving_from(boundaries: &[f32], x: f32, n: usize) -> usize
+    requires { ⌜ Rises (now boundaries) ⌝ }
+    requires { ⌜ n ≡ length (now boundaries) ⌝ }
+    ensures { λ r. ⌜ r ≡ quantized (now (boundaries .entry)) x ⌝ }
+{
+    let mut code = 0;
+    let mut left = n;
+    while 0 < left {
+        let half = left - left / 2;
+        code += above(boundaries[code + half - 1], x, half);
+        left = left / 2;
+    }
+    code
+}
+
+// The code of x over boundaries that rise. The three widths' counts are written out, so that the compiler knows how many turns there are and needs no jumps.
+fn halving(boundaries: &[f32], x: f32) -> usize
+    requires { ⌜ Rises (now boundaries) ⌝ }
+    ensures { λ r. ⌜ r ≡ quantized (now (boundaries .entry)) x ⌝ }
+{
+    match boundaries.len() {
+        15 => halving_from(boundaries, x, 15),
+        31 => halving_from(boundaries, x, 31),
+        63 => halving_from(boundaries, x, 63),
+        n => halving_from(boundaries, x, n),
+    }
+}
+
+// The code of x at a width, and 0 at a width that has no levels.
+pub fn quantize(x: f32, bits: u8) -> u8
+    ensures { λ r. ⌜ r ≡ quantized (boundariesOf bits) x ⌝ }
+{
+    let n = levels(bits);
+    if n == 0 {
+        return 0;
+    }
+    let table = boundaries(bits);
+    halving(&table[0..n - 1], x) as u8
+}
+
+// The centroid of a code at a width, and +0 where there is none.
+pub fn dequantize(code: u8, bits: u8) -> f32
+    ensures { λ r. ⌜ r ≡ centroidAt (centroidsOf bits) code ⌝ }
+{
+    let table = centroids(bits);
+    dequantize_in(&table[0..levels(bits)], code as usize)
+}
+
+// True only of a table that rises strictly.
+fn rises(table: &[f32]) -> bool
+    ensures { λ r. ⌜ (r ≡ true → Rises (now (table .entry))) ⌝ }
+{
+    let mut i = 0;
+    while i + 1 < table.len() {
+        if table[i] < table[i + 1] {
+            i += 1;
+        } else {
+            return false;
+        }
+    }
+    true
+}
+
+// The code of x by halving where the boundaries are known to rise, else by counting.
+fn code_of(rising: bool, boundaries: &[f32], x: f32) -> usize
+    requires { ⌜ (rising ≡ true → Rises (now boundaries)) ⌝ }
+    ensures { λ r. ⌜ r ≡ quantized (now (boundaries .entry)) x ⌝ }
+{
+    if rising {
+        return halving(boundaries, x);
+    }
+    quantize_in(boundaries, x)
+}
+
+// The code of each value in its place.
+fn write_codes(rising: bool, boundaries: &[f32], xs: &[f32], codes: &mut [u8])
+    requires { ⌜ (rising ≡ true → Rises (now boundaries)) ⌝ }
+    requires { ⌜ length (now boundaries) ≤ 255 ⌝ }
+    requires { ⌜ length (now xs) ≤ length (now codes) ⌝ }
+    ensures { λ _. ⌜ now (codes .exit) ≡ over (map (quantized (now (boundaries .entry))) (now (xs .entry))) (now (codes .entry)) ⌝ }
+{
+    let mut i = 0;
+    while i < xs.len() {
+        codes[i] = code_of(rising, boundaries, xs[i]) as u8;
+        i += 1;
+    }
+}
+
+// The codes of many values over one table, into the first places of `codes`. Whether the table rises is tested once, for all of them.
+// Where a code might not fit a byte, or `codes` is too short, nothing is written.
+pub fn quantize_all(boundaries: &[f32], xs: &[f32], codes: &mut [u8])
+    ensures { λ _. ⌜ now (codes .exit) ≡ coded (now (boundaries .entry)) (now (xs .entry)) (now (codes .entry)) ⌝ }
+{
+    if 255 < boundaries.len() {
+        return;
+    }
+    if codes.len() < xs.len() {
+        return;
+    }
+    write_codes(rises(boundaries), boundaries, xs, codes);
+}
