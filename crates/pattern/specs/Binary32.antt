@@ -9,7 +9,6 @@ infixl 65 _⊕_
 infixl 65 _⊖_
 infixl 70 _⊗_
 infixl 70 _⊘_
-
 abbrev pub _⊕_ : Float → Float → Float
 x ⊕ y = add binary32 x y
 
