@@ -1,0 +1,4 @@
+-- What the contracts of this crate cite.
+pub mod Packing
+pub mod Writing
+pub mod Slots

@@ -1,0 +1,54 @@
+-- Lists of digits: the test, one digit replaced, parts.
+use mathlib.Core.Path.{_≡_, refl, sym, subst}
+use mathlib.Core.List.{List, [], _∷_}
+use mathlib.Core.Bool.{Bool, true, false, _&&_}
+use Prim.Native.Nat.{ℕ, zero, suc, _<_, _≤_, suc-le-suc, zero-le}
+use native.Mathlib.Nat.{zero-lt-suc, lt-of-le-of-lt}
+use borrow.Author.Tests.{ltb-true, lt-ltb, le-ltb}
+use lib.Dec.{T, ltb}
+use lib.ListN.{length, getD, take, drop, set}
+use Rattle.digits.specs.Digits.{Below, below}
+
+-- two tests that hold together
+pub both : (s t : Bool) → (s && t) ≡ true → (s ≡ true) × (t ≡ true)
+both true t h = (refl, h)
+both false t h = absurd (subst T (sym h) tt)
+
+module _ (B : ℕ) where
+  pub base-pos : (ds : List ℕ) → Below B ds → 0 < B
+  base-pos ds h = lt-of-le-of-lt zero-le (h 0)
+
+  pub below-yes : (ds : List ℕ) → ((i : ℕ) → i < length ds → getD ds i 0 < B) → below B ds ≡ true
+  below-yes [] h = refl
+  below-yes (d ∷ ds) h = rw (lt-ltb d B (h 0 (zero-lt-suc (length ds)))) (below-yes ds (λ i l. h (suc i) (suc-le-suc l)))
+
+  pub below-no : (ds : List ℕ) (i : ℕ) → i < length ds → B ≤ getD ds i 0 → below B ds ≡ false
+  below-no (d ∷ ds) zero l h = rw (le-ltb d B h)
+  below-no (d ∷ ds) (suc i) (suc-le-suc l) h = go (ltb d B) (below-no ds i l h)
+    where
+      go : (t : Bool) → below B ds ≡ false → (t && below B ds) ≡ false
+      go true e = e
+      go false e = refl
+
+  pub below-true : 0 < B → (ds : List ℕ) → below B ds ≡ true → Below B ds
+  below-true pos [] h i = pos
+  below-true pos (d ∷ ds) h zero = ltb-true d B (both (ltb d B) (below B ds) h .0)
+  below-true pos (d ∷ ds) h (suc i) = below-true pos ds (both (ltb d B) (below B ds) h .1) i
+
+  pub below-set : (ds : List ℕ) (i d : ℕ) → Below B ds → d < B → Below B (set ds i d)
+  below-set [] i d h l k = h k
+  below-set (x ∷ ds) zero d h l zero = l
+  below-set (x ∷ ds) zero d h l (suc k) = h (suc k)
+  below-set (x ∷ ds) (suc i) d h l zero = h zero
+  below-set (x ∷ ds) (suc i) d h l (suc k) = below-set ds i d (λ n. h (suc n)) l k
+
+  pub below-drop : (n : ℕ) (ds : List ℕ) → Below B ds → Below B (drop n ds)
+  below-drop zero ds h = h
+  below-drop (suc n) [] h = h
+  below-drop (suc n) (d ∷ ds) h = below-drop n ds (λ i. h (suc i))
+
+  pub below-take : (n : ℕ) (ds : List ℕ) → Below B ds → Below B (take n ds)
+  below-take zero ds h i = base-pos ds h
+  below-take (suc n) [] h i = h i
+  below-take (suc n) (d ∷ ds) h zero = h zero
+  below-take (suc n) (d ∷ ds) h (suc i) = below-take n ds (λ k. h (suc k)) i

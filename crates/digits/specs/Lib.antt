@@ -1,0 +1,2 @@
+-- What contracts and laws of other crates cite.
+pub mod Digits

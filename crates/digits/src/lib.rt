@@ -1,0 +1,1 @@
+// A number's digits to a base: definitions and laws only (specs/ and proofs/), no code.
