@@ -12,6 +12,7 @@ use Rattle.rhdh.specs.Signs.{start, step, xorLeft, xorRight, output, sign}
 use Rattle.rhdh.specs.Padded.{isPowerOfTwo, exponent}
 use Rattle.rhdh.specs.Fwht.{fwht, pass, entry}
 use Rattle.rhdh.specs.Binary32.{fwht32}
+use Rattle.codes.specs.Packing.{packed, bytesPerVector}
 
 pub record Row : Type 0 where
   pub gives : List ℕ
@@ -37,6 +38,9 @@ rows =
       gives = map (toBits binary32) (fwht32 (map (ofBits binary32) (0x3F80_0000 ∷ 0x4000_0000 ∷ 0x4040_0000 ∷ 0x4080_0000 ∷ [])));
       says = 0x4120_0000 ∷ 0xC000_0000 ∷ 0xC080_0000 ∷ 0 ∷ [];
     }
+    -- 6 bits, codes 1,2,3,4: 81 30 10; 5 bits, codes 31,1: 3F 00
+    ∷ record { gives = packed 6 (1 ∷ 2 ∷ 3 ∷ 4 ∷ []) 0; says = 0x81 ∷ 0x30 ∷ 0x10 ∷ [] }
+    ∷ record { gives = packed 5 (31 ∷ 1 ∷ []) 0; says = 0x3F ∷ 0 ∷ [] }
     -- halves: 1 is 0x3C00; 65504 is 0x7BFF; 65520 is 0x7C00; 2^-25 is 0; 0x0001 reads 2^-24
     ∷ record {
       gives = map narrowed (0x3F80_0000 ∷ 0x477F_E000 ∷ 0x477F_F000 ∷ 0x3300_0000 ∷ []);
@@ -48,5 +52,5 @@ rows =
     ∷ []
 
 pub worked : T (agree rows)
-unfolding rows agree same narrowed widened magnitude near kept rootBits nearestRoot last reaches start step xorLeft xorRight output sign isPowerOfTwo exponent fwht pass entry size add sub ofBits toBits nanBits
+unfolding rows agree same narrowed widened magnitude near kept rootBits nearestRoot last reaches start step xorLeft xorRight output sign isPowerOfTwo exponent fwht pass entry packed bytesPerVector size add sub ofBits toBits nanBits
 worked = tt
