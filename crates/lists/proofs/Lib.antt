@@ -1,2 +1,3 @@
 -- Laws of the lists of specs/, for any type of entries.
 pub mod Laws
+pub mod Entries

@@ -1,0 +1,37 @@
+-- One place of a tabulation changed, the entries of a list of known length, and the entries of two lists zipped.
+use mathlib.Core.Path.{_≡_, refl, sym, ap, _∙_}
+use mathlib.Core.Logic.{_≢_}
+use mathlib.Core.List.{List, [], _∷_}
+use Prim.Native.Nat.{ℕ, zero, suc, _<_}
+use native.Mathlib.Nat.{not-suc-le-zero, le-of-suc-le-suc}
+use native.Mathlib.Decide.{ℕ-discrete}
+use native.Mathlib.Omega.{arith}
+use lib.ListN.{length, getD, set, length-set}
+use lib.Seq.{getD-set-same, getD-set-other, ext-getD}
+use Rattle.lists.specs.Lists.{tab, zipWith}
+use Rattle.lists.proofs.Laws.{length-tab, getD-tab, tab-getD}
+
+module _ {A : Type 0} where
+  pub set-tab : (f g : ℕ → A) (n i : ℕ) (a : A) → i < n → g i ≡ a → ((j : ℕ) → j ≢ i → g j ≡ f j) → set (tab f n) i a ≡ tab g n
+  set-tab f g n i a h e other =
+      ext-getD a _ _ (length-set (tab f n) i a ∙ length-tab f n ∙ sym (length-tab g n))
+      (λ j l. at j (rw (length-set (tab f n) i a, length-tab f n) at l) (ℕ-discrete j i))
+    where
+      at : (j : ℕ) → j < n → Dec (j ≡ i) → getD (set (tab f n) i a) j a ≡ getD (tab g n) j a
+      at j l (yes d) = rw d (getD-set-same (tab f n) i a a (rw (length-tab f n) h) ∙ sym (getD-tab g n i a h ∙ e))
+      at j l (no d) = getD-set-other (tab f n) i j a a d ∙ getD-tab f n j a l ∙ sym (getD-tab g n j a l ∙ other j d)
+
+  pub entries : (xs : List A) (d : A) (n : ℕ) → length xs ≡ n → xs ≡ tab (λ i. getD xs i d) n
+  entries xs d n e = rw e at (sym (tab-getD xs d))
+
+module _ {A B C : Type 0} (f : A → B → C) where
+  pub length-zip : (xs : List A) (ys : List B) → length ys ≡ length xs → length (zipWith f xs ys) ≡ length xs
+  length-zip [] ys e = refl
+  length-zip (x ∷ xs) [] e = e
+  length-zip (x ∷ xs) (y ∷ ys) e = ap suc (length-zip xs ys (omega arith))
+
+  pub getD-zip : (xs : List A) (ys : List B) (i : ℕ) (a : A) (b : B) (c : C) → i < length xs → i < length ys → getD (zipWith f xs ys) i c ≡ f (getD xs i a) (getD ys i b)
+  getD-zip [] ys i a b c h k = absurd (not-suc-le-zero h)
+  getD-zip (x ∷ xs) [] i a b c h k = absurd (not-suc-le-zero k)
+  getD-zip (x ∷ xs) (y ∷ ys) zero a b c h k = refl
+  getD-zip (x ∷ xs) (y ∷ ys) (suc i) a b c h k = getD-zip xs ys i a b c (le-of-suc-le-suc h) (le-of-suc-le-suc k)
