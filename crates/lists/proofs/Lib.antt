@@ -1,3 +1,4 @@
 -- Laws of the lists of specs/, for any type of entries.
 pub mod Laws
 pub mod Entries
+pub mod Keep

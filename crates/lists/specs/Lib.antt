@@ -1,2 +1,3 @@
--- Lists that the kit's library has no name for.
+-- Lists that the library has no name for.
 pub mod Lists
+pub mod Keep

@@ -1,0 +1,1 @@
+// Definitions and laws of the choice of slots: specs/ and proofs/. There is no code.
