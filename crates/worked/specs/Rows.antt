@@ -13,6 +13,9 @@ use Rattle.rhdh.specs.Padded.{isPowerOfTwo, exponent}
 use Rattle.rhdh.specs.Fwht.{fwht, pass, entry}
 use Rattle.rhdh.specs.Binary32.{fwht32}
 use Rattle.codes.specs.Packing.{packed, bytesPerVector}
+use Rattle.score.specs.Order.{orderOfBits, orderNumber}
+use Rattle.choose.specs.Choose.{stay, choose}
+use Rattle.choose_slots.specs.Slots.{entered, listed}
 
 pub record Row : Type 0 where
   pub gives : List ℕ
@@ -28,6 +31,10 @@ same (x ∷ xs) (y ∷ ys) = eqb x y && same xs ys
 unfoldable pub agree : List Row → Bool
 agree [] = true
 agree (r ∷ rs) = same (r .gives) (r .says) && agree rs
+
+-- the order numbers of the scores with these patterns
+abbrev pub orders : List ℕ → List ℕ
+orders scores = map orderNumber (map (ofBits binary32) scores)
 
 unfoldable pub rows : List Row
 rows =
@@ -47,10 +54,15 @@ rows =
       says = 0x3C00 ∷ 0x7BFF ∷ 0x7C00 ∷ 0 ∷ [];
     }
     ∷ record { gives = widened 1 ∷ []; says = 0x3380_0000 ∷ [] }
+    -- order numbers: +0 0x80000000, -0 0x7FFFFFFF
+    ∷ record { gives = orders (0 ∷ 0x8000_0000 ∷ []); says = 0x8000_0000 ∷ 0x7FFF_FFFF ∷ [] }
+    -- scores 1,1,2 with k 2: slots 2,1; scores 2,1,1: 0,1
+    ∷ record { gives = listed (orders (0x3F80_0000 ∷ 0x3F80_0000 ∷ 0x4000_0000 ∷ [])) 2; says = 2 ∷ 1 ∷ [] }
+    ∷ record { gives = listed (orders (0x4000_0000 ∷ 0x3F80_0000 ∷ 0x3F80_0000 ∷ [])) 2; says = 0 ∷ 1 ∷ [] }
     -- root of 0.25 is 0.5
     ∷ record { gives = rootBits 0x3E80_0000 ∷ []; says = 0x3F00_0000 ∷ [] }
     ∷ []
 
 pub worked : T (agree rows)
-unfolding rows agree same narrowed widened magnitude near kept rootBits nearestRoot last reaches start step xorLeft xorRight output sign isPowerOfTwo exponent fwht pass entry packed bytesPerVector size add sub ofBits toBits nanBits
+unfolding rows agree same narrowed widened magnitude near kept rootBits nearestRoot last reaches start step xorLeft xorRight output sign isPowerOfTwo exponent fwht pass entry packed bytesPerVector orderOfBits stay choose entered listed size add sub ofBits toBits nanBits
 worked = tt
