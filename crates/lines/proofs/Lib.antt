@@ -1,0 +1,2 @@
+-- Laws of newlines that several proofs cite.
+mod Newlines

@@ -1,0 +1,18 @@
+-- How an answer is printed into a lent buffer. `sets d at bytes` is d with the bytes from the place `at` on, as far as d reaches.
+use mathlib.Core.Path.{_≡_}
+use mathlib.Core.List.{List}
+use Prim.Native.Nat.{ℕ, _+_, min}
+use lib.ListN.{length}
+use lib.Seq.{sets}
+use Rattle.io.specs.Digits.{digits, Fewest}
+
+-- d after the bytes were printed from the place `at` on, and the place after them: what has no room is cut off
+pub record Put (d : List ℕ) (at : ℕ) (bytes : List ℕ) (after : List ℕ) (next : ℕ) : Type 0 where
+  pub text : after ≡ sets d at bytes
+  pub place : next ≡ min (at + length bytes) (length d)
+
+-- the same of a number in base b, in the fewest digits that hold it and are no fewer than `least`
+pub record PutNumber (b least n : ℕ) (d : List ℕ) (at : ℕ) (after : List ℕ) (next : ℕ) : Type 0 where
+  pub count : ℕ
+  pub fewest : Fewest b least n count
+  pub put : Put d at (digits b count n) after next

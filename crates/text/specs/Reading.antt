@@ -1,0 +1,78 @@
+-- How a field is read, as the language of the program `exercise` has it: "Every number is hexadecimal, lower case, with no prefix and no leading zero
+-- (`0` is zero)"; "A number has at most 16 digits"; "A vector is the binary32 patterns of its entries, eight digits each, run together; bytes are two
+-- digits each, run together; an empty vector or an empty run of bytes is `-`".
+use Prim.Native.Nat.{ℕ, _+_, _-_, _*_, _/_, _%_}
+use mathlib.Core.Bool.{Bool, true, _&&_, not, cond}
+use mathlib.Core.List.{List, [], _∷_}
+use lib.Dec.{eqb, ltb, leb}
+use lib.Ieee.{Float, binary32, ofBits}
+use lib.ListN.{length, take, drop, getD}
+use Rattle.lists.specs.Lists.{tab, over}
+use Rattle.text.specs.declared.reading.Number.{Number}
+use Rattle.text.specs.declared.reading.Number.the-variants.{Value, NoNumber}
+use Rattle.text.specs.declared.reading.Run.{Run}
+use Rattle.text.specs.declared.reading.Run.the-variants.{Length, NoRun}
+
+-- ---- digits
+
+abbrev pub inside : ℕ → ℕ → ℕ → Bool
+inside low high b = leb low b && leb b high
+
+-- the value of a digit's byte, `0` to `9` and then `a` to `f`; 16 for a byte that is no digit
+unfoldable pub digitOf : ℕ → ℕ
+digitOf b = cond (inside 48 57 b) (b - 48) (cond (inside 97 102 b) (b - 87) 16)
+
+abbrev pub areDigits : List ℕ → Bool
+areDigits [] = true
+areDigits (b ∷ bs) = ltb (digitOf b) 16 && areDigits bs
+
+-- the number that digits stand for where v stands for those before them
+abbrev pub valueAfter : ℕ → List ℕ → ℕ
+valueAfter v [] = v
+valueAfter v (b ∷ bs) = valueAfter (v * 16 + digitOf b) bs
+
+abbrev pub valueOf : List ℕ → ℕ
+valueOf ds = valueAfter 0 ds
+
+-- ---- a number
+
+-- several digits, and the first is `0`
+unfoldable pub leadsWithZero : List ℕ → Bool
+leadsWithZero f = leb 2 (length f) && eqb (getD f 0 0) 48
+
+-- 1 to 16 digits, without leading zero
+unfoldable pub isNumber : List ℕ → Bool
+isNumber f = ltb 0 (length f) && (leb (length f) 16 && (not (leadsWithZero f) && areDigits f))
+
+unfoldable pub numberOf : List ℕ → Number
+numberOf f = cond (isNumber f) (Value (valueOf f)) NoNumber
+
+-- ---- vectors and bytes: elements of w digits each
+
+-- `-`, for an empty run
+unfoldable pub isDash : List ℕ → Bool
+isDash f = eqb (length f) 1 && eqb (getD f 0 0) 45
+
+-- one element or more, of w digits each, and no more elements than there is room for
+unfoldable pub isRun : ℕ → ℕ → List ℕ → Bool
+isRun w room f = ltb 0 (length f) && (eqb (length f % w) 0 && (leb (length f / w) room && areDigits f))
+
+-- how many elements the field has
+unfoldable pub runOf : ℕ → ℕ → List ℕ → Run
+runOf w room f = cond (isDash f) (Length 0) (cond (isRun w room f) (Length (length f / w)) NoRun)
+
+-- element i
+abbrev pub elementOf : ℕ → List ℕ → ℕ → ℕ
+elementOf w f i = valueOf (take w (drop (w * i) f))
+
+-- the first n entries of a vector, and the first n bytes
+abbrev pub floatsOf : List ℕ → ℕ → List Float
+floatsOf f n = tab (λ i. ofBits binary32 (elementOf 8 f i)) n
+
+abbrev pub bytesOf : List ℕ → ℕ → List ℕ
+bytesOf f n = tab (elementOf 2 f) n
+
+-- what a lent array holds after a field was read into it: the elements over its first places, or what it held where the field is no run
+abbrev pub readInto : {A : Type 0} → Run → (ℕ → List A) → List A → List A
+readInto (Length n) elements d = over (elements n) d
+readInto NoRun elements d = d

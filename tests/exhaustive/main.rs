@@ -1,0 +1,71 @@
+//! Runs the leaves of the static library at every input against the Rust core, and prints what differs.
+#[path = "../oracle/halves.rs"]
+mod halves;
+
+use std::time::Instant;
+
+#[link(name = "leaf_exports", kind = "static")]
+extern "C" {
+    fn vecq_f32_to_f16_bits(x: u32) -> u16;
+    fn vecq_f16_bits_to_f32(h: u16) -> u32;
+    fn vecq_sqrt(x: f32) -> f32;
+    fn vecq_quantize(x: f32, bits: u8) -> u8;
+}
+
+const THREADS: u64 = 2;
+const ALL: u64 = 1 << 32;
+
+fn main() {
+    let mut differences = 0;
+    differences += compare("f16_bits_to_f32", 1 << 16, |h| {
+        let (ours, right) = (unsafe { vecq_f16_bits_to_f32(h as u16) }, halves::reading(h as u16));
+        (ours == right, ours.into(), right.into())
+    });
+    differences += compare("f32_to_f16_bits", ALL, |p| {
+        let (ours, theirs) = (unsafe { vecq_f32_to_f16_bits(p) }, vecq::format::f32_to_f16_bits(f32::from_bits(p)));
+        (ours == theirs, ours.into(), theirs.into())
+    });
+    differences += compare("sqrt", ALL, |p| {
+        let x = f32::from_bits(p);
+        let (ours, theirs) = (unsafe { vecq_sqrt(x) }.to_bits(), x.sqrt().to_bits());
+        (ours == theirs || is_nan(ours) && is_nan(theirs), ours.into(), theirs.into())
+    });
+    for bits in [4, 5, 6] {
+        differences += compare(&format!("quantize at {bits} bits"), ALL, |p| {
+            let x = f32::from_bits(p);
+            let (ours, theirs) = (unsafe { vecq_quantize(x, bits) }, vecq::lloyd::quantize(x, bits));
+            (ours == theirs, ours.into(), theirs.into())
+        });
+    }
+    println!("{differences} differences in all");
+    std::process::exit((differences > 0) as i32);
+}
+
+fn is_nan(p: u32) -> bool {
+    p & 0x7FFF_FFFF > 0x7F80_0000
+}
+
+/// Asks about each pattern below `end`: whether the two answers agree, and what they are.
+fn compare(what: &str, end: u64, ask: impl Fn(u32) -> (bool, u64, u64) + Sync) -> u64 {
+    let began = Instant::now();
+    let part = |k: u64| {
+        let mut differences = 0;
+        for p in end * k / THREADS..end * (k + 1) / THREADS {
+            let (same, ours, right) = ask(p as u32);
+            if !same {
+                differences += 1;
+                if differences <= 5 {
+                    println!("{what}: at {p:08x} ours is {ours:x} and not {right:x}");
+                }
+            }
+        }
+        differences
+    };
+    let part = &part;
+    let differences = std::thread::scope(|scope| {
+        let threads: Vec<_> = (0..THREADS).map(|k| scope.spawn(move || part(k))).collect();
+        threads.into_iter().map(|t| t.join().expect("a thread ends")).sum()
+    });
+    println!("{what}: {end} inputs, {differences} differences, {} s", began.elapsed().as_secs());
+    differences
+}

@@ -1,0 +1,36 @@
+#!/usr/bin/env python3
+"""patch.py FOLDER: makes the copy of the Rust core in FOLDER the one that the oracle links.
+
+Each row is a file, a whole line of it, and the line that takes its place. A line that is not there exactly once is an
+error: then the sources are not those that this page was written for, and nothing may be compared with them."""
+import os
+import sys
+
+ROWS = [
+    # The vector-instruction branches are left out of the index (document 01), so the oracle takes the scalar ones.
+    ("store.rs", '        std::is_x86_feature_detected!("avx2")', "        false"),
+    # Private functions that the oracle calls.
+    ("format.rs", "fn f32_to_f16_bits(x: f32) -> u16 {", "pub fn f32_to_f16_bits(x: f32) -> u16 {"),
+    ("format.rs", "pub(crate) fn f16_bits_to_f32(h: u16) -> f32 {", "pub fn f16_bits_to_f32(h: u16) -> f32 {"),
+    ("rhdh.rs", "struct SignStream {", "pub struct SignStream {"),
+    ("rhdh.rs", "    fn new(seed: u64) -> Self {", "    pub fn new(seed: u64) -> Self {"),
+    ("rhdh.rs", "    fn next_sign(&mut self) -> f32 {", "    pub fn next_sign(&mut self) -> f32 {"),
+]
+
+
+def main():
+    folder = sys.argv[1]
+    for name, old, new in ROWS:
+        path = os.path.join(folder, name)
+        with open(path, encoding="utf-8") as f:
+            lines = f.read().split("\n")
+        at = [i for i, line in enumerate(lines) if line == old]
+        if len(at) != 1:
+            sys.exit(f"patch.py: {name} has {len(at)} lines that read {old!r}, and must have one")
+        lines[at[0]] = new
+        with open(path, "w", encoding="utf-8") as f:
+            f.write("\n".join(lines))
+    print(f"patch.py: {len(ROWS)} lines patched in {folder}")
+
+
+main()
