@@ -2,3 +2,4 @@
 pub mod Laws
 pub mod Entries
 pub mod Keep
+pub mod Front

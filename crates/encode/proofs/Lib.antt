@@ -1,0 +1,8 @@
+-- Laws that the proofs of this crate's functions cite.
+mod Filling
+mod Sums
+mod FloatTests
+mod Vectors
+mod Stages
+mod Whole
+pub mod Fit

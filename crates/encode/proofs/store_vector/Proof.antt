@@ -1,0 +1,58 @@
+use Rattle.encode.proofs.Whole.{residual-vector, plain-vector}
+use borrow.Author.Needs.{needs}
+use Rattle.encode.proofs.store_vector.Statement.{statement}
+use Rattle.encode.proofs.store_vector.Tie as tie
+use Rattle.encode.proofs.store_vector.Reads as reads
+use Rattle.encode.proofs.store_vector.Lts as lts
+use Rattle.encode.proofs.encode_plain.Reads as encode-plain-reads
+use Rattle.encode.proofs.encode_residual.Reads as encode-residual-reads
+use Rattle.encode.proofs.rotate.Reads as rotate-reads
+
+rotate-requires : tie.Need-rotate-requires
+rotate-requires c κs = search needs
+
+encode-residual-requires : tie.Need-encode-residual-requires
+encode-residual-requires c κs = search needs
+
+same-length : tie.Need-same-length
+same-length c = search needs
+
+same-length-2 : tie.Need-same-length-2
+same-length-2 c = search needs
+
+same-length-3 : tie.Need-same-length-3
+same-length-3 c = search needs
+
+returns : tie.Need-returns
+returns c =
+    let s = c .before .before .before .before .before .before .before .before .before .before .before .before .before .before .before .before .before .before .before in
+    residual-vector _ _ _ _ _ _ _ (s .pre .0) _ _ (s .pre .1) (c .before .before .before .before .before .before .before .before .before .before .before .rotate .ensures) (c .before .before .before .before .before .before .before .before .if1 .taken) _ (c .before .before .before .before .encode-residual .ensures)
+
+encode-plain-requires : tie.Need-encode-plain-requires
+encode-plain-requires c κs = search needs
+
+same-length-4 : tie.Need-same-length-4
+same-length-4 c = search needs
+
+same-length-5 : tie.Need-same-length-5
+same-length-5 c = search needs
+
+returns-2 : tie.Need-returns-2
+returns-2 c =
+    let s = c .before .before .before .before .before .before .before .before .before .before .before .before .before .before .before .before in
+    plain-vector _ _ _ _ _ _ _ (s .pre .0) _ _ (s .pre .1) (c .before .before .before .before .before .before .before .before .rotate .ensures) (c .before .before .before .before .before .if1 .left) _ _ (c .before .before .encode-plain .ensures)
+
+pub store-vector-spec : {M : Type 1} → statement M
+store-vector-spec =
+    tie.close
+    (tie.spec
+    rotate-requires
+    encode-residual-requires
+    same-length
+    same-length-2
+    same-length-3
+    returns
+    encode-plain-requires
+    same-length-4
+    same-length-5
+    returns-2)

@@ -1,0 +1,59 @@
+-- What a slot stores of a vector: a stage, and a second one where the index is residual.
+use mathlib.Core.Bool.{Bool, cond}
+use mathlib.Core.List.{List}
+use mathlib.Core.Option.{Option, none, some}
+use Prim.Native.Nat.{ℕ}
+use lib.Ieee.{Float}
+use Rattle.codes.specs.Packing.{packed, spare}
+use Rattle.encode.specs.Header.{Header, padded}
+use Rattle.encode.specs.Encode.{Table, Coding, vectorFault, rotatedBy, plain, residual}
+
+-- a scale as a binary32 pattern, and the block of code bytes
+pub record Stage : Type 0 where
+  pub scale : ℕ
+  pub block : List ℕ
+
+abbrev pub stage : (scale : ℕ) → (block : List ℕ) → Stage
+stage scale block = record { scale = scale; block = block }
+
+pub record Code : Type 0 where
+  pub first : Stage
+  pub second : Option Stage
+
+-- the code that a slot's places hold: those of the second stage count only where the index is residual
+abbrev pub codeIn : (residual : Bool) → (first second : Stage) → Code
+codeIn residual first second = record { first = first; second = cond residual (some second) none }
+
+-- 1, 2 or 3 where a vector or a query is turned down, else 0
+abbrev pub fault : Header → List Float → ℕ
+fault h v = vectorFault (h .dim) (h .working) v
+
+abbrev pub rotatedOf : Header → List Float → List Float
+rotatedOf h v = rotatedBy (h .working) (h .seed) v
+
+-- the spare bits above the codes, in the block of each stage
+pub record Spare : Type 0 where
+  pub first : ℕ
+  pub second : ℕ
+
+-- 01, store.rs: "Spare bits are 0 after an append; an overwrite keeps them."
+abbrev pub noSpare : Spare
+noSpare = record { first = 0; second = 0 }
+
+abbrev pub spareIn : Header → Stage → ℕ
+spareIn h g = spare (h .width) (padded h) (g .block)
+
+abbrev pub spareOf : Header → Code → Spare
+spareOf h c = record { first = spareIn h (c .first); second = elim (c .second) [ none ↦ 0 | some g ↦ spareIn h g ] }
+
+-- a coding in a block of w bits a code, with these spare bits above
+abbrev pub stored : (w above : ℕ) → Coding → Stage
+stored w above g = stage (g .scale) (packed w (g .codes) above)
+
+unfoldable pub encoded : Table → Header → (above : Spare) → List Float → Code
+encoded t h above v =
+    let xs = rotatedOf h v in
+    let both = residual t xs in
+    cond (h .residual)
+    (record { first = stored (h .width) (above .first) (both .first); second = some (stored (h .width) (above .second) (both .second)) })
+    (record { first = stored (h .width) (above .first) (plain t xs); second = none })

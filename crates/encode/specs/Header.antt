@@ -1,0 +1,13 @@
+-- What fixes how a vector is coded, and stays while slots are in use: the struct `Header`.
+use Prim.Native.Nat.{ℕ}
+use Rattle.rhdh.specs.Padded.{paddedDim}
+use Rattle.codes.specs.Packing.{bytesPerVector}
+pub use Rattle.encode.specs.declared.Header.{Header}
+
+-- how many entries the rotated vector has, and how many codes
+abbrev pub padded : Header → ℕ
+padded h = paddedDim (h .working)
+
+-- 01, store.rs: "Bytes per vector"
+abbrev pub blockSize : Header → ℕ
+blockSize h = bytesPerVector (h .width) (padded h)

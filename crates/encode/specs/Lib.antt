@@ -1,0 +1,5 @@
+-- What the contracts of this and of other crates cite.
+pub mod Header
+pub mod Encode
+pub mod Coded
+pub mod Calls
