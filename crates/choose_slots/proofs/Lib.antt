@@ -3,4 +3,3 @@ pub mod Listed
 mod Counting
 mod Gathering
 mod Listing
-mod Radix

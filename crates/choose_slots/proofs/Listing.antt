@@ -17,8 +17,9 @@ use Rattle.lists.proofs.Keep.{each-mem, each-getD, each-weaken, each-append, ea
 use Rattle.choose.proofs.Falling.{compared, count-reaches, length-falling, falling-map, falling-same}
 use Rattle.choose.proofs.Staying.{parts, stay-parts, stay-keep}
 use Rattle.choose.proofs.Choice.{ranks, ranks-le, threshold-unique}
+use Rattle.sort_slots.specs.Sort.{orderAt}
 use Rattle.choose_slots.specs.Slots.{entered, listed}
-use Rattle.choose_slots.specs.Steps.{between, gathered, orderAt}
+use Rattle.choose_slots.specs.Steps.{between, gathered}
 use Rattle.choose_slots.proofs.Listed.{count-numbered, length-entered, length-listed}
 
 -- an order number by itself, and beside its slot

@@ -10,8 +10,9 @@ use lib.Dec.{ltb}
 use Rattle.lists.specs.Keep.{count, Each}
 use Rattle.choose.specs.Falling.{falling}
 use Rattle.lists.proofs.Keep.{each-getD, count-length}
+use Rattle.sort_slots.specs.Sort.{orderAt}
 use Rattle.choose_slots.specs.Slots.{listed}
-use Rattle.choose_slots.specs.Steps.{between, gathered, orderAt}
+use Rattle.choose_slots.specs.Steps.{between, gathered}
 use Rattle.choose_slots.proofs.Listing.{t-positive, end-there, start-there, gathered-right}
 use Rattle.choose_slots.proofs.gather_chosen.Statement.{statement}
 use Rattle.choose_slots.proofs.gather_chosen.Tie as tie

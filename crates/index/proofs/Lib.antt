@@ -1,0 +1,9 @@
+-- Laws of the index as a value.
+pub mod Blocks
+pub mod Overlay
+pub mod Marks
+pub mod Fits
+pub mod Refusals
+pub mod Encoded
+pub mod Changes
+pub mod Kept

@@ -1,0 +1,9 @@
+-- What a reader must believe: the index as a value, the arrays that hold it, what each call does, and when record and arrays misfit.
+pub mod Arrays
+pub mod State
+pub mod Fit
+pub mod Codec
+pub mod File
+pub mod Step
+pub mod Call
+pub mod Sound
