@@ -26,13 +26,15 @@ impl List {
         self.sections.last_mut().expect("a section comes first").1 += 1;
     }
 
+    /// The last line of the input goes without its newline, which the programs have to bear.
     pub fn write(&self, dir: &Path) {
-        fs::write(dir.join("stdin"), &self.stdin).expect("stdin is written");
+        let stdin = self.stdin.strip_suffix('\n').expect("a list has lines");
+        fs::write(dir.join("stdin"), stdin).expect("stdin is written");
         fs::write(dir.join("stdout"), &self.stdout).expect("stdout is written");
         for (title, lines) in &self.sections {
             println!("{lines:6}  {title}");
         }
         let lines: usize = self.sections.iter().map(|s| s.1).sum();
-        println!("{lines:6}  lines, {} bytes in, {} bytes out", self.stdin.len(), self.stdout.len());
+        println!("{lines:6}  lines, {} bytes in, {} bytes out", stdin.len(), self.stdout.len());
     }
 }

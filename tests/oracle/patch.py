@@ -15,6 +15,18 @@ ROWS = [
     ("rhdh.rs", "struct SignStream {", "pub struct SignStream {"),
     ("rhdh.rs", "    fn new(seed: u64) -> Self {", "    pub fn new(seed: u64) -> Self {"),
     ("rhdh.rs", "    fn next_sign(&mut self) -> f32 {", "    pub fn next_sign(&mut self) -> f32 {"),
+    # Fields that the oracle reads, and sets where no call leads there (spare bits, any scale, a residual index with fewer working dimensions).
+    (
+        "store.rs",
+        "    pub(crate) codes: Vec<u8>, // n * bpv codes, bit-packed LSB-first (4-bit = nibbles)",
+        "    pub codes: Vec<u8>,",
+    ),
+    ("store.rs", "    pub(crate) scales: Vec<f32>, // per-vector dequantization scale", "    pub scales: Vec<f32>,"),
+    ("store.rs", "    pub(crate) residual: bool,", "    pub residual: bool,"),
+    ("store.rs", "    pub(crate) codes2: Vec<u8>,   // n * bpv residual codes", "    pub codes2: Vec<u8>,"),
+    ("store.rs", "    pub(crate) scales2: Vec<f32>, // per-vector residual RMS", "    pub scales2: Vec<f32>,"),
+    ("store.rs", "    rotated: Vec<f32>,", "    pub rotated: Vec<f32>,"),
+    ("store.rs", "    rnorm: f32,", "    pub rnorm: f32,"),
 ]
 
 

@@ -2,7 +2,7 @@
 use mathlib.Core.Path.{_≡_, refl, sym, ap, subst, _∙_}
 use mathlib.Core.Logic.{⊎-elim}
 use mathlib.Core.List.{List}
-use Prim.Native.Nat.{ℕ, suc, _+_, _≤_, _<_}
+use Prim.Native.Nat.{ℕ, _+_, _≤_, _<_}
 use native.Mathlib.Nat.{eq-or-lt-of-le, le-of-suc-le-suc, le-add-right}
 use native.Mathlib.Numerals.{add-one}
 use native.Mathlib.Omega.{arith}
@@ -17,14 +17,14 @@ pub one-more : (buf : List ℕ) (a i : ℕ) → NoNewline buf a i → (getD buf 
 one-more buf a i n here =
     record {
       clean = λ k l h e.
-        ⊎-elim (λ q. here (subst (λ (j : ℕ). getD buf j 0 ≡ 10) q e)) (λ below. n .clean k l below e) (eq-or-lt-of-le (le-of-suc-le-suc (rw add-one at h)))
+          ⊎-elim (λ q. here (subst (λ (j : ℕ). getD buf j 0 ≡ 10) q e)) (λ below. n .clean k l below e) (eq-or-lt-of-le (le-of-suc-le-suc (rw add-one at h)));
     }
 
 -- the same bytes up to b: the same newlines
 pub same-front : (buf buf′ : List ℕ) (b : ℕ) → take b buf′ ≡ take b buf → NoNewline buf 0 b → NoNewline buf′ 0 b
 same-front buf buf′ b t n =
     record {
-      clean = λ k l h e. n .clean k l h (sym (getD-take b buf k 0 h) ∙ ap (λ (s : List ℕ). getD s k 0) (sym t) ∙ getD-take b buf′ k 0 h ∙ e)
+      clean = λ k l h e. n .clean k l h (sym (getD-take b buf k 0 h) ∙ ap (λ (s : List ℕ). getD s k 0) (sym t) ∙ getD-take b buf′ k 0 h ∙ e);
     }
 
 -- a part without newlines, of which i bytes have been moved to the front
@@ -54,5 +54,5 @@ module _ (old : List ℕ) (from to : ℕ) (fits : to ≤ length old) (part : NoN
       record {
         long = length-set buf i (getD buf (from + i) 0) ∙ m .long;
         front = one-more next 0 i front-kept (λ e. part .clean (from + i) (le-add-right from i) h (sym next-same ∙ e));
-        back = λ k l. next-other k (λ q. omega arith) ∙ m .back k (omega arith)
+        back = λ k l. next-other k (λ q. omega arith) ∙ m .back k (omega arith);
       }

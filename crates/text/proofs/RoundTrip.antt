@@ -1,13 +1,13 @@
 -- What is printed is read back: a number in the fewest hexadecimal digits that hold it is a field that reads as this number.
-use mathlib.Core.Path.{_≡_, refl, sym, ap, _∙_, subst}
-use mathlib.Core.Bool.{Bool, true, false, _&&_, not, cond}
+use mathlib.Core.Path.{_≡_, refl, sym, ap, _∙_}
+use mathlib.Core.Bool.{Bool, true, false, cond}
 use mathlib.Core.List.{List, [], _∷_, _++_}
 use Prim.Native.Nat.{ℕ, zero, suc, _+_, _-_, _*_, _/_, _%_, _^_, _≤_, _<_}
-use native.Mathlib.Nat.{div-add-mod', mod-lt, mod-eq-of-lt, div-lt-iff-lt-mul, le-div-iff-mul-le, pow-suc, pow-le-pow-right, le-trans, lt-of-lt-of-le}
+use native.Mathlib.Nat.{div-add-mod', mod-lt, div-lt-iff-lt-mul, le-div-iff-mul-le, pow-suc, pow-le-pow-right, le-trans}
 use native.Mathlib.Numerals.{sub-one}
 use native.Mathlib.Omega.{arith}
 use borrow.Author.Tests.{le-leb, lt-leb, lt-ltb, ltb-true, ltb-false, ne-eqb}
-use lib.Dec.{T, ltb, leb, eqb, lit<}
+use lib.Dec.{ltb, lit<}
 use lib.ListN.{length, getD, length-append, List·getD-append}
 use Rattle.io.specs.Digits.{glyph, digits, Fewest}
 use Rattle.text.specs.declared.reading.Number.the-variants.{Value}

@@ -1,15 +1,14 @@
 -- What it takes for a field to be a number, a vector or a run of bytes.
-use mathlib.Core.Path.{_≡_, refl, sym, ap, _∙_, subst}
-use mathlib.Core.Bool.{Bool, true, false, _&&_, not, cond}
+use mathlib.Core.Path.{_≡_, refl}
+use mathlib.Core.Bool.{Bool, true, false, _&&_, not}
 use mathlib.Core.List.{List}
-use Prim.Native.Nat.{ℕ, zero, suc, _+_, _*_, _/_, _%_, _≤_, _<_}
+use Prim.Native.Nat.{ℕ, _*_, _/_, _%_, _≤_, _<_}
 use native.Mathlib.Nat.{mul-comm, div-mul-le-self}
 use native.Mathlib.Omega.{arith}
 use borrow.Author.Tests.{leb-true}
 use lib.Dec.{ltb, leb, eqb}
 use lib.ListN.{length}
-use Rattle.text.specs.declared.reading.Run.{Run}
-use Rattle.text.specs.declared.reading.Run.the-variants.{Length, NoRun}
+use Rattle.text.specs.declared.reading.Run.the-variants.{Length}
 use Rattle.text.specs.Reading.{areDigits, leadsWithZero, isNumber, isDash, isRun, runOf}
 use Rattle.text.proofs.Value.{both}
 
@@ -32,6 +31,7 @@ run-is w room f n e = go (isDash f) (isRun w room f) refl refl
   where
     none : n ≡ 0 → IsRun w room f n
     none z = record { fits = omega arith; digits = λ h. absurd (omega arith); whole = λ h. absurd (omega arith) }
+
     some : isRun w room f ≡ true → length f / w ≡ n → IsRun w room f n
     some h q =
         let h₁ = both (ltb 0 (length f)) (eqb (length f % w) 0 && (leb (length f / w) room && areDigits f)) h .1 in
@@ -40,6 +40,7 @@ run-is w room f n e = go (isDash f) (isRun w room f) refl refl
         let room-for : length f / w ≤ room = leb-true (length f / w) room (h₃ .0) in
         let most : w * (length f / w) ≤ length f = rw mul-comm (div-mul-le-self (length f) w) in
         record { fits = omega arith; digits = λ _. h₃ .1; whole = λ _. rw q at most }
+
     go : (d r : Bool) → isDash f ≡ d → isRun w room f ≡ r → IsRun w room f n
     go true r d h = none cc
     go false true d h = some h cc

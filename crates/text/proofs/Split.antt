@@ -1,5 +1,5 @@
 -- The fields of what is left of a line, from one byte to the next.
-use mathlib.Core.Path.{_≡_, refl, sym, ap, _∙_}
+use mathlib.Core.Path.{_≡_, refl, ap, _∙_}
 use mathlib.Core.Bool.{Bool, true, false}
 use mathlib.Core.List.{List, [], _∷_, _++_, append-nil}
 use Prim.Native.Nat.{ℕ, zero, suc, _+_, _-_, _<_}
@@ -79,5 +79,5 @@ module _ (l : List ℕ) (i : ℕ) (h : i < length l) where
   pub other-first : (getD l i 0 ≡ 32 → ⊥) → take (i + 1) l ++ getD (fields (drop (i + 1) l)) 0 [] ≡ take i l ++ getD (fields (drop i l)) 0 []
   other-first n =
       let first : getD (fields (drop i l)) 0 [] ≡ getD l i 0 ∷ getD (fields (drop (i + 1) l)) 0 [] =
-        ap (λ (fs : List (List ℕ)). getD fs 0 []) (at-other n) ∙ withByte-first (getD l i 0) (fields (drop (i + 1) l)) in
+      ap (λ (fs : List (List ℕ)). getD fs 0 []) (at-other n) ∙ withByte-first (getD l i 0) (fields (drop (i + 1) l)) in
       rw (first, add-one, take-suc l i 0, append-snoc)

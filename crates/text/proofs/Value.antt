@@ -2,15 +2,15 @@
 use mathlib.Core.Path.{_≡_, refl, sym, ap, _∙_, subst}
 use mathlib.Core.Bool.{Bool, true, false, _&&_}
 use mathlib.Core.List.{List, [], _∷_}
-use Prim.Native.Nat.{ℕ, zero, suc, _+_, _*_, _^_, _≤_, _<_, suc-le-suc}
-use native.Mathlib.Nat.{le-trans, lt-of-lt-of-le, le-of-suc-le-suc, mul-le-mul-right, pow-le-pow-right, pow-suc, le-of-eq}
+use Prim.Native.Nat.{ℕ, zero, suc, _+_, _*_, _^_, _≤_, _<_}
+use native.Mathlib.Nat.{lt-of-lt-of-le, le-of-suc-le-suc, mul-le-mul-right, pow-le-pow-right, pow-suc}
 use native.Mathlib.Numerals.{add-one}
 use native.Mathlib.Omega.{arith}
 use borrow.Author.Tests.{ltb-true, lt-ltb, le-ltb}
-use lib.Dec.{T, ltb, lit<, lit≤}
+use lib.Dec.{T, ltb, lit<}
 use lib.ListN.{length, take, drop, getD, length-drop}
 use lib.Seq.{drop-cons, drop-length, length-take-le}
-use Rattle.text.specs.Reading.{digitOf, areDigits, valueAfter, valueOf}
+use Rattle.text.specs.Reading.{digitOf, areDigits, valueAfter}
 
 -- ---- every byte is a digit
 

@@ -1,4 +1,5 @@
 -- The fields of a line, as the language of the program `exercise` has them: "a command word and its fields, parted by single blanks".
+use mathlib.Core.Path.{_≡_, refl}
 use Prim.Native.Nat.{ℕ}
 use mathlib.Core.Bool.{Bool, true, false}
 use mathlib.Core.List.{List, [], _∷_}
@@ -14,3 +15,7 @@ withByte false b (f ∷ fs) = (b ∷ f) ∷ fs
 abbrev pub fields : List ℕ → List (List ℕ)
 fields [] = [] ∷ []
 fields (b ∷ bs) = withByte (eqb b 32) b (fields bs)
+
+-- worked by hand: `ab  c` has three fields, the second of them empty
+worked : fields (97 ∷ 98 ∷ 32 ∷ 32 ∷ 99 ∷ []) ≡ (97 ∷ 98 ∷ []) ∷ [] ∷ (99 ∷ []) ∷ []
+worked = refl

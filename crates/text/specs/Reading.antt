@@ -1,6 +1,7 @@
 -- How a field is read, as the language of the program `exercise` has it: "Every number is hexadecimal, lower case, with no prefix and no leading zero
 -- (`0` is zero)"; "A number has at most 16 digits"; "A vector is the binary32 patterns of its entries, eight digits each, run together; bytes are two
 -- digits each, run together; an empty vector or an empty run of bytes is `-`".
+use mathlib.Core.Path.{_≡_, refl}
 use Prim.Native.Nat.{ℕ, _+_, _-_, _*_, _/_, _%_}
 use mathlib.Core.Bool.{Bool, true, _&&_, not, cond}
 use mathlib.Core.List.{List, [], _∷_}
@@ -76,3 +77,15 @@ bytesOf f n = tab (elementOf 2 f) n
 abbrev pub readInto : {A : Type 0} → Run → (ℕ → List A) → List A → List A
 readInto (Length n) elements d = over (elements n) d
 readInto NoRun elements d = d
+
+-- ---- worked by hand
+
+-- `1f` is 31, `0` is 0, and `01` is no number
+number-worked : (numberOf (49 ∷ 102 ∷ []) ≡ Value 31) × (numberOf (48 ∷ []) ≡ Value 0) × (numberOf (48 ∷ 49 ∷ []) ≡ NoNumber)
+unfolding numberOf isNumber leadsWithZero digitOf
+number-worked = (refl, refl, refl)
+
+-- `0aff` is the two bytes 10 and 255, `-` is none, and `0af` is no run of bytes
+bytes-worked : (runOf 2 9 (48 ∷ 97 ∷ 102 ∷ 102 ∷ []) ≡ Length 2) × (bytesOf (48 ∷ 97 ∷ 102 ∷ 102 ∷ []) 2 ≡ 10 ∷ 255 ∷ []) × (runOf 2 9 (45 ∷ []) ≡ Length 0) × (runOf 2 9 (48 ∷ 97 ∷ 102 ∷ []) ≡ NoRun)
+unfolding runOf isRun isDash digitOf
+bytes-worked = (refl, refl, refl, refl)

@@ -1,6 +1,6 @@
 // The fields of a line, parted by single blanks.
 ghost use mathlib.Core.Path.{_≡_};
-ghost use mathlib.Core.List.{[], _++_};
+ghost use mathlib.Core.List.{[]};
 ghost use Prim.Native.Nat.{_≤_};
 ghost use lib.ListN.{length, take, drop, getD};
 ghost use Rattle.text.specs.Fields.{fields};

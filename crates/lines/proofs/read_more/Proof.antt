@@ -25,9 +25,10 @@ same-length c = search needs
 
 returns : tie.Need-returns
 returns c =
-    let start = c .before .before .before .before .before .before .before .before .before .before in
-    (omega (arith, c .before .before .count .ensures .0 .0, c .before .before .before .before .before .before .read .kept .1 .0),
-      take-at (take (start .args .kept) (start .args .buf .now)) _ (start .args .kept) (length-take-le (start .args .kept) (start .args .buf .now) (start .pre)))
+    let start = c .before .before .before .before .before .before .before .before .before .before in (
+      omega (arith, c .before .before .count .ensures .0 .0, c .before .before .before .before .before .before .read .kept .1 .0),
+      take-at (take (start .args .kept) (start .args .buf .now)) _ (start .args .kept) (length-take-le (start .args .kept) (start .args .buf .now) (start .pre)),
+    )
 
 pub read-more-spec : {M : Type 1} → statement M
 read-more-spec =

@@ -37,8 +37,8 @@ returns : tie.Need-returns
 returns c =
     rw (sub-zero (c .before .first-length .result))
     (c .before .first-length .ensures .1
-      ∙ ap (λ (l : List ℕ). getD (fields l) 0 []) (tail-whole (c .before .before .before .before .before .args .line .now) (c .before .before .before .start .result))
-      ∙ c .before .before .before .start .ensures .1)
+    ∙ ap (λ (l : List ℕ). getD (fields l) 0 []) (tail-whole (c .before .before .before .before .before .args .line .now) (c .before .before .before .start .result))
+    ∙ c .before .before .before .start .ensures .1)
 
 pub field-spec : {M : Type 1} → statement M
 field-spec =

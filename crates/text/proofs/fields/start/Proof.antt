@@ -1,7 +1,7 @@
 use mathlib.Core.Path.{_≡_, sym, ap, _∙_}
 use mathlib.Core.Logic.{⊎-elim}
 use mathlib.Core.List.{[]}
-use Prim.Native.Nat.{ℕ, _+_, _-_, _≤_, _<_}
+use Prim.Native.Nat.{ℕ, _-_, _≤_, _<_}
 use native.Mathlib.Nat.{pos-of-ne-zero}
 use native.Mathlib.Omega.{arith}
 use borrow.Author.Needs.{needs}
@@ -40,9 +40,10 @@ loop-again c =
     let line = c .before .before .before .before .before .args .line .now in
     let loop = c .before .before .before .before .loop in
     let below = c .before .before .before .loop-test .taken in
-    let some : 0 < loop .left = pos-of-ne-zero (c .before .before .if1 .left) in
-    (search needs,
-      ⊎-elim (λ w. cc (blank-later line (loop .at) below (w .0 .taken) (loop .left) some)) (λ w. cc (other-later line (loop .at) below (w .0 .left) (loop .left) some)) (c .if2 .came))
+    let some : 0 < loop .left = pos-of-ne-zero (c .before .before .if1 .left) in (
+      search needs,
+      ⊎-elim (λ w. cc (blank-later line (loop .at) below (w .0 .taken) (loop .left) some)) (λ w. cc (other-later line (loop .at) below (w .0 .left) (loop .left) some)) (c .if2 .came),
+    )
 
 returns-2 : tie.Need-returns-2 Inv-loop μ-loop
 returns-2 c = (search needs, past-all (c .before .before .args .line .now) (c .before .loop .at) (omega arith) (c .before .loop .left) ∙ c .before .loop .inv .1)

@@ -36,9 +36,10 @@ loop-less c = search needs
 loop-again : tie.Need-loop-again Inv-loop μ-loop
 loop-again c =
     let loop = c .before .before .before .before .before .before in
-    let args = loop .before .before .before .before .args in
-    (search needs,
-      put-more (args .out .now) (args .at) (args .bytes .now) (loop .loop .i) _ _ _ _ (c .before .before .before .before .before .loop-test .taken) (loop .loop .inv .1) (c .before .before .put-byte .ensures))
+    let args = loop .before .before .before .before .args in (
+      search needs,
+      put-more (args .out .now) (args .at) (args .bytes .now) (loop .loop .i) _ _ _ _ (c .before .before .before .before .before .loop-test .taken) (loop .loop .inv .1) (c .before .before .put-byte .ensures),
+    )
 
 same-length : tie.Need-same-length Inv-loop μ-loop
 same-length c = ap length (c .before .loop .inv .1 .text) ∙ simp length-sets

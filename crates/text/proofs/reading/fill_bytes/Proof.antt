@@ -46,10 +46,12 @@ loop-less c = search needs
 loop-again : tie.Need-loop-again Inv-loop μ-loop
 loop-again c =
     let args = c .before .before .before .before .before .args in
-    let loop = c .before .before .loop in
-    (search needs, simp length-set (loop .inv .1),
+    let loop = c .before .before .loop in (
+      search needs,
+      simp length-set (loop .inv .1),
       ap₂ (λ (l : List ℕ) (x : ℕ). set l (loop .i) x) (loop .inv .2) (c .element .ensures .0)
-        ∙ over-more (elementOf 2 (args .field .now)) (loop .i) (args .out .now) (omega (arith, run (c .before .before .before .before .before) .fits)))
+          ∙ over-more (elementOf 2 (args .field .now)) (loop .i) (args .out .now) (omega (arith, run (c .before .before .before .before .before) .fits)),
+    )
 
 same-length : tie.Need-same-length Inv-loop μ-loop
 same-length c = c .before .loop .inv .1

@@ -53,10 +53,12 @@ loop-less c = search needs
 loop-again : tie.Need-loop-again Inv-loop μ-loop
 loop-again c =
     let args = c .before .before .before .before .before .before .args in
-    let loop = c .before .before .before .loop in
-    (search needs, simp length-set (loop .inv .1),
+    let loop = c .before .before .before .loop in (
+      search needs,
+      simp length-set (loop .inv .1),
       ap₂ (λ (l : List Float) (x : Float). set l (loop .i) x) (loop .inv .2) (c .from-bits .ensures ∙ ap (ofBits binary32) (c .before .element .ensures .0))
-        ∙ over-more (λ (i : ℕ). ofBits binary32 (elementOf 8 (args .field .now) i)) (loop .i) (args .out .now) (omega (arith, run (c .before .before .before .before .before .before) .fits)))
+          ∙ over-more (λ (i : ℕ). ofBits binary32 (elementOf 8 (args .field .now) i)) (loop .i) (args .out .now) (omega (arith, run (c .before .before .before .before .before .before) .fits)),
+    )
 
 same-length : tie.Need-same-length Inv-loop μ-loop
 same-length c = c .before .loop .inv .1

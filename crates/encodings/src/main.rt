@@ -1,0 +1,642 @@
+// Runs the encoding of vectors, the preparing of queries, the scores and their order numbers on the lines of standard input, and
+// prints one line for each. Lines, numbers, vectors and bytes are written as in the language of the program `exercise`; an answer `?`
+// says that the line can't be read.
+//
+//   encode WIDTH RESIDUAL DIM WORKING SEED VEC
+//           what an appended slot stores: `BLOCK SCALE`, where RESIDUAL is 1 `BLOCK SCALE BLOCK2 SCALE2`
+//   over WIDTH RESIDUAL DIM WORKING SEED BLOCK BLOCK2 VEC
+//           the same written over these blocks, BLOCK2 `-` where RESIDUAL is 0
+//   prepare DIM WORKING SEED VEC
+//           the norm of the rotated query, and the prepared query
+//   score WIDTH DIM WORKING SEED SCALE BLOCK VEC
+//   score2 WIDTH DIM WORKING SEED SCALE BLOCK SCALE2 BLOCK2 VEC
+//           `score PATTERN`, for a slot that stores this and the query VEC
+//   order P
+//           the order number of the score with pattern P
+//
+// WIDTH is 4, 5 or 6, RESIDUAL is 0 or 1, DIM is at most 4,096 and WORKING at most DIM. Scales are patterns, answered in eight digits. A
+// vector has at most 4,096 entries and a block at most 4,096 bytes. In the place of each answer but the last may stand `refused N`, with
+// document 01's number, in decimal. Tables are those of the width.
+ghost use mathlib.Core.Path.{_≡_};
+ghost use Prim.Native.Nat.{_≤_, _<_};
+ghost use lib.ListN.{length};
+use encode::Header;
+use encode::Scales;
+use lines::Next;
+use lines::Span;
+use score::Scored;
+use text::Number;
+use text::Run;
+
+fn main() {
+    let mut buf = input();
+    let mut out = output();
+    run(&mut buf, &mut out);
+}
+
+// As long as the longest line that is read, 140,000 bytes, and its newline.
+fn input() -> [u8; 140001] {
+    [0; 140001]
+}
+
+// Long enough for the longest answer, that of `prepare`: 4,097 times 8 digits, a blank and a newline.
+fn output() -> [u8; 40000] {
+    [0; 40000]
+}
+
+fn floats() -> [f32; 4096] {
+    [0.0; 4096]
+}
+
+fn bytes() -> [u8; 4096] {
+    [0; 4096]
+}
+
+// What is left to hand out of the buffer, and whether the input has ended.
+struct State {
+    unread: Span,
+    ended: bool,
+}
+
+// Nothing says that the input ends, so the turns are counted down from a number that no run uses up.
+fn run(buf: &mut [u8], out: &mut [u8]) {
+    let mut unread = Span { from: 0, to: 0 };
+    let mut turns = u64::MAX;
+    while 0 < turns {
+        let t = turn(buf, out, unread);
+        if t.ended {
+            return;
+        }
+        unread = t.unread;
+        turns -= 1;
+    }
+}
+
+// One line, answered.
+fn turn(buf: &mut [u8], out: &mut [u8], unread: Span) -> State {
+    match lines::next_line(buf, unread) {
+        Next::Line(line, rest) => {
+            let from = line.from;
+            let to = line.to;
+            let n = answer(&buf[from..to], out);
+            print(out, n);
+            State {
+                unread: rest,
+                ended: false,
+            }
+        }
+        Next::Long(rest) => {
+            let n = unreadable(out);
+            print(out, n);
+            State {
+                unread: rest,
+                ended: false,
+            }
+        }
+        Next::End => State {
+            unread: unread,
+            ended: true,
+        },
+    }
+}
+
+// Writes the first n bytes of out, and a newline.
+fn print(out: &mut [u8], n: usize) {
+    let end = text::put_byte(out, n, b'\n');
+    io::write_all(1, &out[0..end]);
+}
+
+fn unreadable(out: &mut [u8]) -> usize {
+    text::put_byte(out, 0, b'?')
+}
+
+// Puts the answer to a line into out, and answers its length.
+fn answer(line: &[u8], out: &mut [u8]) -> usize {
+    if line.len() == 0 {
+        return 0;
+    }
+    if line[0] == b'#' {
+        return 0;
+    }
+    answer_command(line, command(text::field(line, 0)), out)
+}
+
+// The number of a command word: its place in the list.
+fn command(word: &[u8]) -> usize {
+    let words = b"encode over prepare score score2 order";
+    let n = text::field_count(words);
+    let mut i = 0;
+    while i < n {
+        if check::same(word, text::field(words, i)) {
+            return i;
+        }
+        i += 1;
+    }
+    n
+}
+
+fn answer_command(line: &[u8], c: usize, out: &mut [u8]) -> usize {
+    match c {
+        0 => answer_encode(line, out),
+        1 => answer_over(line, out),
+        2 => answer_prepare(line, out),
+        3 => answer_score(line, out),
+        4 => answer_score2(line, out),
+        5 => answer_order(line, out),
+        _ => unreadable(out),
+    }
+}
+
+fn put_refused(out: &mut [u8], fault: u8) -> usize {
+    let at = text::put_bytes(out, 0, b"refused ");
+    text::put_decimal(out, at, fault as u64)
+}
+
+// ---- encodings
+
+fn answer_encode(line: &[u8], out: &mut [u8]) -> usize {
+    let x = header_at(line, 7);
+    let n = block_length(x.header);
+    if !x.ok {
+        return unreadable(out);
+    }
+    let mut block = bytes();
+    let mut block2 = bytes();
+    answer_blocks(
+        line,
+        6,
+        x.header,
+        true,
+        &mut block[0..n],
+        &mut block2[0..n],
+        out,
+    )
+}
+
+// How long a block is; a header that can be read has none of over 3,072 bytes.
+fn block_length(header: Header) -> usize
+    ensures { λ r. ⌜ r ≤ 4096 ⌝ }
+{
+    let n = codes::bytes_per_vector(rhdh::padded_dim(header.working), header.width);
+    if 4096 < n {
+        return 0;
+    }
+    n
+}
+
+fn answer_over(line: &[u8], out: &mut [u8]) -> usize {
+    let x = header_at(line, 9);
+    let mut block = bytes();
+    let mut block2 = bytes();
+    let a = bytes_at(line, 6, &mut block);
+    let b = bytes_at(line, 7, &mut block2);
+    let n = a.length;
+    let n2 = b.length;
+    if !(x.ok && a.ok && b.ok) {
+        return unreadable(out);
+    }
+    answer_blocks(
+        line,
+        8,
+        x.header,
+        false,
+        &mut block[0..n],
+        &mut block2[0..n2],
+        out,
+    )
+}
+
+// The vector in field i, encoded into the blocks.
+fn answer_blocks(
+    line: &[u8],
+    i: usize,
+    header: Header,
+    fresh: bool,
+    block: &mut [u8],
+    block2: &mut [u8],
+    out: &mut [u8],
+) -> usize {
+    let mut v = floats();
+    let x = vector_at(line, i, &mut v);
+    let n = x.length;
+    if x.ok {
+        return put_encoding(out, header, fresh, &v[0..n], block, block2);
+    }
+    unreadable(out)
+}
+
+fn put_encoding(
+    out: &mut [u8],
+    header: Header,
+    fresh: bool,
+    v: &[f32],
+    block: &mut [u8],
+    block2: &mut [u8],
+) -> usize {
+    let fault = encode::vector_fault(header.dim, header.working, v);
+    if fault != 0 {
+        return put_refused(out, fault);
+    }
+    let s = encode_by_width(header, fresh, v, block, block2);
+    put_slot(out, header.residual, s, block, block2)
+}
+
+// The encoding by the tables of the width. There is one boundary fewer than there are centroids.
+fn encode_by_width(
+    header: Header,
+    fresh: bool,
+    v: &[f32],
+    block: &mut [u8],
+    block2: &mut [u8],
+) -> Scales {
+    let n = levels(header.width);
+    let boundaries = lloyd::boundaries(header.width);
+    let centroids = lloyd::centroids(header.width);
+    encode::encode(
+        header,
+        fresh,
+        &boundaries[0..n - 1],
+        &centroids[0..n],
+        v,
+        block,
+        block2,
+    )
+}
+
+fn put_slot(out: &mut [u8], residual: bool, s: Scales, block: &[u8], block2: &[u8]) -> usize {
+    let at = put_stage(out, 0, block, s.scale);
+    if residual {
+        let next = text::put_byte(out, at, b' ');
+        return put_stage(out, next, block2, s.scale2);
+    }
+    at
+}
+
+fn put_stage(out: &mut [u8], at: usize, block: &[u8], scale: u32) -> usize {
+    let next = put_run(out, at, block);
+    let after = text::put_byte(out, next, b' ');
+    text::put_hex(out, after, scale as u64, 8)
+}
+
+fn put_run(out: &mut [u8], at: usize, bytes: &[u8]) -> usize {
+    if bytes.len() == 0 {
+        return text::put_byte(out, at, b'-');
+    }
+    let mut next = at;
+    let mut i = 0;
+    while i < bytes.len() {
+        next = put_two_digits(out, next, bytes[i]);
+        i += 1;
+    }
+    next
+}
+
+fn put_two_digits(out: &mut [u8], at: usize, byte: u8) -> usize {
+    text::put_hex(out, at, byte as u64, 2)
+}
+
+// ---- queries
+
+fn answer_prepare(line: &[u8], out: &mut [u8]) -> usize {
+    let mut q = floats();
+    let x = query_at(line, 5, 1, 4, &mut q);
+    let n = x.length;
+    if !x.ok {
+        return unreadable(out);
+    }
+    if x.fault != 0 {
+        return put_refused(out, x.fault);
+    }
+    put_query(out, x.rnorm, &q[0..n])
+}
+
+fn put_query(out: &mut [u8], rnorm: f32, q: &[f32]) -> usize {
+    let at = put_float(out, 0, rnorm);
+    let mut next = text::put_byte(out, at, b' ');
+    let mut i = 0;
+    while i < q.len() {
+        next = put_float(out, next, q[i]);
+        i += 1;
+    }
+    next
+}
+
+fn put_float(out: &mut [u8], at: usize, x: f32) -> usize {
+    text::put_hex(out, at, pattern::to_bits(x) as u64, 8)
+}
+
+// A query as a line has it: whether it can be read, the refusal or 0, and how many entries the prepared query has.
+struct Query {
+    ok: bool,
+    fault: u8,
+    rnorm: f32,
+    length: usize,
+}
+
+fn no_query(ok: bool, fault: u8) -> Query
+    ensures { λ r. ⌜ r .length ≡ 0 ⌝ }
+{
+    Query {
+        ok: ok,
+        fault: fault,
+        rnorm: 0.0,
+        length: 0,
+    }
+}
+
+// The query in field i of a line of count fields, prepared in the first places of q. What it is prepared by stands from field `from` on.
+fn query_at(line: &[u8], count: usize, from: usize, i: usize, q: &mut [f32]) -> Query
+    requires { ⌜ from ≤ 3 ⌝ }
+    ensures { λ r. ⌜ r .length ≤ length (now (q .entry)) ⌝ }
+{
+    let s = space_at(line, count, from);
+    let mut v = floats();
+    let x = vector_at(line, i, &mut v);
+    let n = x.length;
+    if !(s.ok && x.ok) {
+        return no_query(false, 0);
+    }
+    prepare(s, &v[0..n], q)
+}
+
+fn prepare(s: Space, v: &[f32], q: &mut [f32]) -> Query
+    ensures { λ r. ⌜ r .length ≤ length (now (q .entry)) ⌝ }
+{
+    let fault = encode::vector_fault(s.dim, s.working, v);
+    let padded = rhdh::padded_dim(s.working);
+    if fault != 0 {
+        return no_query(true, fault);
+    }
+    if q.len() < padded {
+        return no_query(false, 0);
+    }
+    Query {
+        ok: true,
+        fault: 0,
+        rnorm: encode::prepare(s.working, s.seed, v, q),
+        length: padded,
+    }
+}
+
+// ---- scores
+
+fn answer_score(line: &[u8], out: &mut [u8]) -> usize {
+    let w = width_at(line, 1);
+    let mut q = floats();
+    let x = query_at(line, 8, 2, 7, &mut q);
+    let mut block = bytes();
+    let a = stage_at(line, 5, &mut block);
+    let m = x.length;
+    let n = a.length;
+    if !(w.ok && x.ok && a.ok) {
+        return unreadable(out);
+    }
+    if x.fault != 0 {
+        return put_refused(out, x.fault);
+    }
+    put_scored(
+        out,
+        score_by_width(w.width, &q[0..m], a.scale, &block[0..n]),
+    )
+}
+
+fn score_by_width(width: u8, q: &[f32], scale: u32, block: &[u8]) -> Scored {
+    let n = levels(width);
+    let centroids = lloyd::centroids(width);
+    score::score(width, &centroids[0..n], q, scale, block)
+}
+
+fn answer_score2(line: &[u8], out: &mut [u8]) -> usize {
+    let w = width_at(line, 1);
+    let mut q = floats();
+    let x = query_at(line, 10, 2, 9, &mut q);
+    let m = x.length;
+    if !(w.ok && x.ok) {
+        return unreadable(out);
+    }
+    answer_stages(line, w.width, x.fault, &q[0..m], out)
+}
+
+// Both stages of a line of `score2`, whose query is refused or prepared.
+fn answer_stages(line: &[u8], width: u8, fault: u8, q: &[f32], out: &mut [u8]) -> usize {
+    let mut block = bytes();
+    let mut block2 = bytes();
+    let a = stage_at(line, 5, &mut block);
+    let b = stage_at(line, 7, &mut block2);
+    let n = a.length;
+    let n2 = b.length;
+    if !(a.ok && b.ok) {
+        return unreadable(out);
+    }
+    if fault != 0 {
+        return put_refused(out, fault);
+    }
+    put_scored(
+        out,
+        score2_by_width(width, q, a.scale, &block[0..n], b.scale, &block2[0..n2]),
+    )
+}
+
+fn score2_by_width(
+    width: u8,
+    q: &[f32],
+    scale: u32,
+    block: &[u8],
+    scale2: u32,
+    block2: &[u8],
+) -> Scored {
+    let n = levels(width);
+    let centroids = lloyd::centroids(width);
+    score::score_residual(width, &centroids[0..n], q, scale, block, scale2, block2)
+}
+
+fn put_scored(out: &mut [u8], s: Scored) -> usize {
+    match s {
+        Scored::Score(x) => put_score(out, x),
+        Scored::Refused(n) => put_refused(out, n),
+    }
+}
+
+fn put_score(out: &mut [u8], x: f32) -> usize {
+    let at = text::put_bytes(out, 0, b"score ");
+    put_float(out, at, x)
+}
+
+fn answer_order(line: &[u8], out: &mut [u8]) -> usize {
+    let p = number_at(line, 1, 0xFFFF_FFFF);
+    if text::field_count(line) != 2 {
+        return unreadable(out);
+    }
+    if p.ok {
+        return text::put_hex(
+            out,
+            0,
+            score::order_number(pattern::from_bits(p.value as u32)) as u64,
+            1,
+        );
+    }
+    unreadable(out)
+}
+
+// ---- the fields of a line
+
+struct Arg {
+    ok: bool,
+    value: u64,
+}
+
+struct Width {
+    ok: bool,
+    width: u8,
+}
+
+// What a vector is rotated by.
+struct Space {
+    ok: bool,
+    dim: usize,
+    working: usize,
+    seed: u64,
+}
+
+struct Heading {
+    ok: bool,
+    header: Header,
+}
+
+// A scale, and the length of its block.
+struct Stage {
+    ok: bool,
+    scale: u32,
+    length: usize,
+}
+
+// The elements of a field: how many they are.
+struct Part {
+    ok: bool,
+    length: usize,
+}
+
+// How many codes a width has; 1 where it is no width, so that its tables have parts.
+fn levels(width: u8) -> usize
+    ensures { λ r. ⌜ (0 < r) × (r ≤ 64) ⌝ }
+{
+    let n = lloyd::levels(width);
+    if n == 0 {
+        return 1;
+    }
+    n
+}
+
+// The header of a line of count fields, from field 1 on.
+fn header_at(line: &[u8], count: usize) -> Heading {
+    let w = width_at(line, 1);
+    let r = number_at(line, 2, 1);
+    let s = space_at(line, count, 3);
+    Heading {
+        ok: w.ok && r.ok && s.ok,
+        header: Header {
+            dim: s.dim,
+            working: s.working,
+            seed: s.seed,
+            width: w.width,
+            residual: r.value == 1,
+        },
+    }
+}
+
+fn width_at(line: &[u8], i: usize) -> Width {
+    let w = number_at(line, i, 6);
+    Width {
+        ok: w.ok && 4 <= w.value,
+        width: w.value as u8,
+    }
+}
+
+// DIM, WORKING and SEED from field i on, in a line of count fields.
+fn space_at(line: &[u8], count: usize, i: usize) -> Space
+    requires { ⌜ i ≤ 3 ⌝ }
+{
+    let dim = number_at(line, i, 4096);
+    let working = number_at(line, i + 1, dim.value);
+    let seed = number_at(line, i + 2, u64::MAX);
+    Space {
+        ok: text::field_count(line) == count && dim.ok && working.ok && seed.ok,
+        dim: dim.value as usize,
+        working: working.value as usize,
+        seed: seed.value,
+    }
+}
+
+// The scale in field i, and the block in the field after it.
+fn stage_at(line: &[u8], i: usize, block: &mut [u8]) -> Stage
+    requires { ⌜ i ≤ 7 ⌝ }
+    ensures { λ r. ⌜ r .length ≤ length (now (block .entry)) ⌝ }
+{
+    let p = number_at(line, i, 0xFFFF_FFFF);
+    let x = bytes_at(line, i + 1, block);
+    Stage {
+        ok: p.ok && x.ok,
+        scale: p.value as u32,
+        length: x.length,
+    }
+}
+
+// Field i as a number, at most `most`.
+fn number_at(line: &[u8], i: usize, most: u64) -> Arg
+    ensures { λ r. ⌜ r .value ≤ most ⌝ }
+{
+    match text::read_number(text::field(line, i)) {
+        Number::Value(n) => at_most(n, most),
+        Number::NoNumber => no_arg(),
+    }
+}
+
+fn at_most(n: u64, most: u64) -> Arg
+    ensures { λ r. ⌜ r .value ≤ most ⌝ }
+{
+    if n <= most {
+        return Arg { ok: true, value: n };
+    }
+    no_arg()
+}
+
+fn no_arg() -> Arg
+    ensures { λ r. ⌜ r .value ≡ 0 ⌝ }
+{
+    Arg {
+        ok: false,
+        value: 0,
+    }
+}
+
+// Field i as a vector, read into the first entries of v.
+fn vector_at(line: &[u8], i: usize, v: &mut [f32]) -> Part
+    ensures { λ r. ⌜ r .length ≤ length (now (v .entry)) ⌝ }
+{
+    match text::read_vector(text::field(line, i), v) {
+        Run::Length(n) => Part {
+            ok: true,
+            length: n,
+        },
+        Run::NoRun => Part {
+            ok: false,
+            length: 0,
+        },
+    }
+}
+
+// Field i as bytes, read into the first places of b.
+fn bytes_at(line: &[u8], i: usize, b: &mut [u8]) -> Part
+    ensures { λ r. ⌜ r .length ≤ length (now (b .entry)) ⌝ }
+{
+    match text::read_bytes(text::field(line, i), b) {
+        Run::Length(n) => Part {
+            ok: true,
+            length: n,
+        },
+        Run::NoRun => Part {
+            ok: false,
+            length: 0,
+        },
+    }
+}

@@ -1,0 +1,4 @@
+-- Laws of refusal 13's test.
+pub mod Rooms
+mod Marks
+pub mod Meaning

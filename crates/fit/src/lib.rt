@@ -1,0 +1,170 @@
+// Refusal 13's test of the index: whether a record and its lent arrays fit.
+ghost use mathlib.Core.Path.{_≡_};
+ghost use mathlib.Core.Bool.{false};
+ghost use Prim.Native.Nat.{_≤_, _<_, min};
+ghost use lib.ListN.{length, getD, set};
+ghost use Rattle.lists.specs.Keep.{bit};
+ghost use Rattle.codes.specs.Writing.{atWidth};
+ghost use Rattle.index.specs.Arrays.{lent};
+ghost use Rattle.index.specs.State as State;
+ghost use Rattle.index.specs.Fit.{fit};
+ghost use Rattle.positions.specs.Decides.{Decides};
+ghost use Rattle.fit.specs.Fits.{Fields, Marked, Marks};
+use index::Index;
+
+// ---- live marks, which are read and written here alone
+
+// The live mark of a slot; 0 past the end.
+pub fn live_mark(alive: &[u8], slot: usize) -> u8
+    ensures { λ r. ⌜ r ≡ getD (now (alive .entry)) slot 0 ⌝ }
+{
+    if slot < alive.len() {
+        return alive[slot];
+    }
+    0
+}
+
+// Marks a slot as live or as dead; nothing past the end.
+pub fn set_live_mark(alive: &mut [u8], slot: usize, live: bool)
+    ensures { λ r. ⌜ now (alive .exit) ≡ set (now (alive .entry)) slot (bit live) ⌝ }
+{
+    if slot < alive.len() {
+        alive[slot] = live as u8;
+    }
+}
+
+// ---- the record
+
+// Whether the fields are in range, and a residual record has width 4.
+fn fields_fit(index: Index) -> bool
+    ensures { λ r. ⌜ Decides r (Fields index) ⌝ }
+{
+    if index.dim < 1 {
+        return false;
+    }
+    if 4096 < index.dim {
+        return false;
+    }
+    if index.working_dim < 1 {
+        return false;
+    }
+    if index.dim < index.working_dim {
+        return false;
+    }
+    if index.bits < 4 {
+        return false;
+    }
+    if 6 < index.bits {
+        return false;
+    }
+    if index.residual {
+        return index.bits == 4;
+    }
+    true
+}
+
+// ---- room
+
+// The lower of two numbers.
+fn lower(a: usize, b: usize) -> usize
+    ensures { λ r. ⌜ r ≡ min a b ⌝ }
+{
+    if a < b {
+        return a;
+    }
+    b
+}
+
+// The fewest slots that any lent array of the index holds, at most 65,536; 0 at a width that no code has.
+pub fn capacity(
+    index: Index,
+    codes: &[u8],
+    scales: &[u32],
+    keys: &[u64],
+    keyed: &[bool],
+    held: &[u32],
+    alive: &[u8],
+    codes2: &[u8],
+    scales2: &[u32],
+) -> usize
+    ensures { λ r. ⌜ r ≡ atWidth (index .bits) (State.capacity (State.headerOf index) (lent (codes .entry) (scales .entry) (keys .entry) (keyed .entry) (held .entry) (alive .entry) (codes2 .entry) (scales2 .entry))) ⌝ }
+{
+    let bytes = codes::bytes_per_vector(rhdh::padded_dim(index.working_dim), index.bits);
+    if bytes == 0 {
+        return 0;
+    }
+    let data = lower(lower(65536, codes.len() / bytes), scales.len());
+    let marks = lower(
+        lower(lower(lower(data, keys.len()), keyed.len()), held.len()),
+        alive.len(),
+    );
+    if index.residual {
+        return lower(lower(marks, codes2.len() / bytes), scales2.len());
+    }
+    marks
+}
+
+// ---- marks
+
+// Whether a slot's mark is 0 or 1, and 1 if it has a key.
+fn mark_fits(keyed: &[bool], mark: u8, slot: usize) -> bool
+    requires { ⌜ slot < length (now keyed) ⌝ }
+    ensures { λ r. ⌜ Decides r (Marked (getD (now (keyed .entry)) slot false) mark) ⌝ }
+{
+    if 1 < mark {
+        return false;
+    }
+    if keyed[slot] {
+        return mark == 1;
+    }
+    true
+}
+
+// Whether that is so of each slot in use, and the live count is right.
+fn marks_fit(keyed: &[bool], alive: &[u8], n: usize, live: usize) -> bool
+    requires { ⌜ n ≤ length (now keyed) ⌝ }
+    ensures { λ r. ⌜ Decides r (Marks (now (keyed .entry)) (now (alive .entry)) n live) ⌝ }
+{
+    let mut many: usize = 0;
+    let mut i = 0;
+    while i < n {
+        let mark = live_mark(alive, i);
+        if mark_fits(keyed, mark, i) {
+            many += mark as usize;
+            i += 1;
+        } else {
+            return false;
+        }
+    }
+    many == live
+}
+
+// ---- the test
+
+// Refusal 13, for the index's part: false where a call is to be refused.
+pub fn fits(
+    index: Index,
+    codes: &[u8],
+    scales: &[u32],
+    keys: &[u64],
+    keyed: &[bool],
+    held: &[u32],
+    alive: &[u8],
+    codes2: &[u8],
+    scales2: &[u32],
+) -> bool
+    ensures { λ r. ⌜ r ≡ fit index (lent (codes .entry) (scales .entry) (keys .entry) (keyed .entry) (held .entry) (alive .entry) (codes2 .entry) (scales2 .entry)) ⌝ }
+{
+    if fields_fit(index) {
+        let n = index.n;
+        let room = capacity(index, codes, scales, keys, keyed, held, alive, codes2, scales2);
+        if room < n {
+            return false;
+        }
+        if marks_fit(keyed, alive, n, index.live) {
+            return positions::positions_fit(keys, keyed, held, n);
+        }
+        return false;
+    }
+    false
+}
