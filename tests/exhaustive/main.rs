@@ -15,27 +15,38 @@ extern "C" {
 const THREADS: u64 = 2;
 const ALL: u64 = 1 << 32;
 
+/// Runs every comparison, or those that the arguments name.
 fn main() {
+    let named: Vec<String> = std::env::args().skip(1).collect();
+    let wanted = |name: &str| named.is_empty() || named.iter().any(|n| n == name);
     let mut differences = 0;
-    differences += compare("f16_bits_to_f32", 1 << 16, |h| {
-        let (ours, right) = (unsafe { vecq_f16_bits_to_f32(h as u16) }, halves::reading(h as u16));
-        (ours == right, ours.into(), right.into())
-    });
-    differences += compare("f32_to_f16_bits", ALL, |p| {
-        let (ours, theirs) = (unsafe { vecq_f32_to_f16_bits(p) }, vecq::format::f32_to_f16_bits(f32::from_bits(p)));
-        (ours == theirs, ours.into(), theirs.into())
-    });
-    differences += compare("sqrt", ALL, |p| {
-        let x = f32::from_bits(p);
-        let (ours, theirs) = (unsafe { vecq_sqrt(x) }.to_bits(), x.sqrt().to_bits());
-        (ours == theirs || is_nan(ours) && is_nan(theirs), ours.into(), theirs.into())
-    });
-    for bits in [4, 5, 6] {
-        differences += compare(&format!("quantize at {bits} bits"), ALL, |p| {
-            let x = f32::from_bits(p);
-            let (ours, theirs) = (unsafe { vecq_quantize(x, bits) }, vecq::lloyd::quantize(x, bits));
+    if wanted("f16_bits_to_f32") {
+        differences += compare("f16_bits_to_f32", 1 << 16, |h| {
+            let (ours, right) = (unsafe { vecq_f16_bits_to_f32(h as u16) }, halves::reading(h as u16));
+            (ours == right, ours.into(), right.into())
+        });
+    }
+    if wanted("f32_to_f16_bits") {
+        differences += compare("f32_to_f16_bits", ALL, |p| {
+            let (ours, theirs) = (unsafe { vecq_f32_to_f16_bits(p) }, vecq::format::f32_to_f16_bits(f32::from_bits(p)));
             (ours == theirs, ours.into(), theirs.into())
         });
+    }
+    if wanted("sqrt") {
+        differences += compare("sqrt", ALL, |p| {
+            let x = f32::from_bits(p);
+            let (ours, theirs) = (unsafe { vecq_sqrt(x) }.to_bits(), x.sqrt().to_bits());
+            (ours == theirs || is_nan(ours) && is_nan(theirs), ours.into(), theirs.into())
+        });
+    }
+    for (name, bits) in [("quantize-4", 4), ("quantize-5", 5), ("quantize-6", 6)] {
+        if wanted(name) {
+            differences += compare(name, ALL, |p| {
+                let x = f32::from_bits(p);
+                let (ours, theirs) = (unsafe { vecq_quantize(x, bits) }, vecq::lloyd::quantize(x, bits));
+                (ours == theirs, ours.into(), theirs.into())
+            });
+        }
     }
     println!("{differences} differences in all");
     std::process::exit((differences > 0) as i32);

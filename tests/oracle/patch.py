@@ -1,7 +1,7 @@
 #!/usr/bin/env python3
 """patch.py FOLDER: makes the copy of the Rust core in FOLDER the one that the oracle links.
 
-Each row is a file, a whole line of it, and the line that takes its place. A line that is not there exactly once is an
+Each row is a file, a whole line of it but for a comment at its end, and the line that takes its place. A line that is not there exactly once is an
 error: then the sources are not those that this page was written for, and nothing may be compared with them."""
 import os
 import sys
@@ -16,15 +16,11 @@ ROWS = [
     ("rhdh.rs", "    fn new(seed: u64) -> Self {", "    pub fn new(seed: u64) -> Self {"),
     ("rhdh.rs", "    fn next_sign(&mut self) -> f32 {", "    pub fn next_sign(&mut self) -> f32 {"),
     # Fields that the oracle reads, and sets where no call leads there (spare bits, any scale, a residual index with fewer working dimensions).
-    (
-        "store.rs",
-        "    pub(crate) codes: Vec<u8>, // n * bpv codes, bit-packed LSB-first (4-bit = nibbles)",
-        "    pub codes: Vec<u8>,",
-    ),
-    ("store.rs", "    pub(crate) scales: Vec<f32>, // per-vector dequantization scale", "    pub scales: Vec<f32>,"),
+    ("store.rs", "    pub(crate) codes: Vec<u8>,", "    pub codes: Vec<u8>,"),
+    ("store.rs", "    pub(crate) scales: Vec<f32>,", "    pub scales: Vec<f32>,"),
     ("store.rs", "    pub(crate) residual: bool,", "    pub residual: bool,"),
-    ("store.rs", "    pub(crate) codes2: Vec<u8>,   // n * bpv residual codes", "    pub codes2: Vec<u8>,"),
-    ("store.rs", "    pub(crate) scales2: Vec<f32>, // per-vector residual RMS", "    pub scales2: Vec<f32>,"),
+    ("store.rs", "    pub(crate) codes2: Vec<u8>,", "    pub codes2: Vec<u8>,"),
+    ("store.rs", "    pub(crate) scales2: Vec<f32>,", "    pub scales2: Vec<f32>,"),
     ("store.rs", "    rotated: Vec<f32>,", "    pub rotated: Vec<f32>,"),
     ("store.rs", "    rnorm: f32,", "    pub rnorm: f32,"),
 ]
@@ -36,7 +32,7 @@ def main():
         path = os.path.join(folder, name)
         with open(path, encoding="utf-8") as f:
             lines = f.read().split("\n")
-        at = [i for i, line in enumerate(lines) if line == old]
+        at = [i for i, line in enumerate(lines) if line.split(" //")[0].rstrip() == old]
         if len(at) != 1:
             sys.exit(f"patch.py: {name} has {len(at)} lines that read {old!r}, and must have one")
         lines[at[0]] = new

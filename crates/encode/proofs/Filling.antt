@@ -37,8 +37,8 @@ module _ {A : Type 0} (target start : List A) where
         same = inv .same;
         size = length-set out i x ∙ inv .size;
         places =
-          rw (inv .places, drop-cons start i z (omega arith), set-at (take i target) (getD start i z) (drop (suc i) start) x i (length-take-le i target (inv .within)), add-one i, take-suc target i z h, e)
-          (sym (append-snoc (take i target) (getD target i z) (drop (suc i) start)));
+            rw (inv .places, drop-cons start i z (omega arith), set-at (take i target) (getD start i z) (drop (suc i) start) x i (length-take-le i target (inv .within)), add-one i, take-suc target i z h, e)
+            (sym (append-snoc (take i target) (getD target i z) (drop (suc i) start)));
       }
 
     pub filled-all : length target ≤ i → out ≡ target

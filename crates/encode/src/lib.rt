@@ -242,7 +242,15 @@ fn pack(codes: &[u8], bits: u8, fresh: bool, block: &mut [u8])
 }
 
 // One stage: the codes of xs into the block, and the centroids that they stand for in the place of xs.
-fn store(boundaries: &[f32], centroids: &[f32], bits: u8, fresh: bool, codes: &mut [u8], xs: &mut [f32], block: &mut [u8])
+fn store(
+    boundaries: &[f32],
+    centroids: &[f32],
+    bits: u8,
+    fresh: bool,
+    codes: &mut [u8],
+    xs: &mut [f32],
+    block: &mut [u8],
+)
     requires { ⌜ fits bits (length (now boundaries)) (length (now xs)) (length (now block)) ≡ true ⌝ }
     requires { ⌜ length (now codes) ≡ length (now xs) ⌝ }
     ensures values { λ _. ⌜ now (xs .exit) ≡ dequantized (table (now (boundaries .entry)) (now (centroids .entry))) (now (xs .entry)) ⌝ }
@@ -254,7 +262,16 @@ fn store(boundaries: &[f32], centroids: &[f32], bits: u8, fresh: bool, codes: &m
 }
 
 // The first stage of a rotated vector, and in d the centroids of its codes.
-fn store_first(boundaries: &[f32], centroids: &[f32], rotated: &[f32], bits: u8, fresh: bool, codes: &mut [u8], d: &mut [f32], block: &mut [u8])
+fn store_first(
+    boundaries: &[f32],
+    centroids: &[f32],
+    rotated: &[f32],
+    bits: u8,
+    fresh: bool,
+    codes: &mut [u8],
+    d: &mut [f32],
+    block: &mut [u8],
+)
     requires { ⌜ fits bits (length (now boundaries)) (length (now rotated)) (length (now block)) ≡ true ⌝ }
     requires { ⌜ (length (now codes) ≡ length (now rotated)) × (length (now d) ≡ length (now rotated)) ⌝ }
     ensures values { λ _. ⌜ now (d .exit) ≡ dequantized (table (now (boundaries .entry)) (now (centroids .entry))) (now (rotated .entry)) ⌝ }
@@ -265,7 +282,16 @@ fn store_first(boundaries: &[f32], centroids: &[f32], rotated: &[f32], bits: u8,
 }
 
 // The one stage of a plain index, in a block that fits.
-fn store_plain(boundaries: &[f32], centroids: &[f32], rotated: &[f32], bits: u8, fresh: bool, codes: &mut [u8], d: &mut [f32], block: &mut [u8]) -> u32
+fn store_plain(
+    boundaries: &[f32],
+    centroids: &[f32],
+    rotated: &[f32],
+    bits: u8,
+    fresh: bool,
+    codes: &mut [u8],
+    d: &mut [f32],
+    block: &mut [u8],
+) -> u32
     requires { ⌜ fits bits (length (now boundaries)) (length (now rotated)) (length (now block)) ≡ true ⌝ }
     requires { ⌜ (length (now codes) ≡ length (now rotated)) × (length (now d) ≡ length (now rotated)) ⌝ }
     ensures { λ r. ⌜ stage r (now (block .exit)) ≡ stored bits (spareAfter fresh bits (length (now (rotated .entry))) (now (block .entry))) (plain (table (now (boundaries .entry)) (now (centroids .entry))) (now (rotated .entry))) ⌝ }
@@ -275,7 +301,14 @@ fn store_plain(boundaries: &[f32], centroids: &[f32], rotated: &[f32], bits: u8,
 }
 
 // The codes of a rotated vector into the block of a slot of a plain index. The result is the scale's pattern.
-pub fn encode_plain(boundaries: &[f32], centroids: &[f32], rotated: &[f32], bits: u8, fresh: bool, block: &mut [u8]) -> u32
+pub fn encode_plain(
+    boundaries: &[f32],
+    centroids: &[f32],
+    rotated: &[f32],
+    bits: u8,
+    fresh: bool,
+    block: &mut [u8],
+) -> u32
     ensures { λ r. ⌜ stage r (now (block .exit)) ≡ plainInto (table (now (boundaries .entry)) (now (centroids .entry))) bits fresh (now (rotated .entry)) (now (block .entry)) ⌝ }
 {
     let n = rotated.len();
@@ -284,7 +317,16 @@ pub fn encode_plain(boundaries: &[f32], centroids: &[f32], rotated: &[f32], bits
     }
     let mut codes = bytes();
     let mut d = floats();
-    store_plain(boundaries, centroids, rotated, bits, fresh, &mut codes[0..n], &mut d[0..n], block)
+    store_plain(
+        boundaries,
+        centroids,
+        rotated,
+        bits,
+        fresh,
+        &mut codes[0..n],
+        &mut d[0..n],
+        block,
+    )
 }
 
 // The larger of x and 1e-12, and 1e-12 for a NaN.
@@ -349,7 +391,18 @@ fn residual_scales(d: &[f32], e: &[f32], rms: f32) -> Scales
 }
 
 // Both stages of a residual index, in blocks that fit.
-fn store_residual(boundaries: &[f32], centroids: &[f32], rotated: &[f32], bits: u8, fresh: bool, codes: &mut [u8], d: &mut [f32], e: &mut [f32], block: &mut [u8], block2: &mut [u8]) -> Scales
+fn store_residual(
+    boundaries: &[f32],
+    centroids: &[f32],
+    rotated: &[f32],
+    bits: u8,
+    fresh: bool,
+    codes: &mut [u8],
+    d: &mut [f32],
+    e: &mut [f32],
+    block: &mut [u8],
+    block2: &mut [u8],
+) -> Scales
     requires { ⌜ fits bits (length (now boundaries)) (length (now rotated)) (length (now block)) ≡ true ⌝ }
     requires { ⌜ length (now block2) ≡ length (now block) ⌝ }
     requires { ⌜ (length (now codes) ≡ length (now rotated)) × (length (now d) ≡ length (now rotated)) × (length (now e) ≡ length (now rotated)) ⌝ }
@@ -362,24 +415,55 @@ fn store_residual(boundaries: &[f32], centroids: &[f32], rotated: &[f32], bits: 
 }
 
 // The codes of a rotated vector, and those of what they leave of it, into the blocks of a slot of a residual index.
-pub fn encode_residual(boundaries: &[f32], centroids: &[f32], rotated: &[f32], bits: u8, fresh: bool, block: &mut [u8], block2: &mut [u8]) -> Scales
+pub fn encode_residual(
+    boundaries: &[f32],
+    centroids: &[f32],
+    rotated: &[f32],
+    bits: u8,
+    fresh: bool,
+    block: &mut [u8],
+    block2: &mut [u8],
+) -> Scales
     ensures { λ r. ⌜ stages r (now (block .exit)) (now (block2 .exit)) ≡ residualInto (table (now (boundaries .entry)) (now (centroids .entry))) bits fresh (now (rotated .entry)) (now (block .entry)) (now (block2 .entry)) ⌝ }
 {
     let n = rotated.len();
     if !fits(bits, boundaries.len(), n, block.len()) {
-        return Scales { scale: 0, scale2: 0 };
+        return Scales {
+            scale: 0,
+            scale2: 0,
+        };
     }
     if block2.len() != block.len() {
-        return Scales { scale: 0, scale2: 0 };
+        return Scales {
+            scale: 0,
+            scale2: 0,
+        };
     }
     let mut codes = bytes();
     let mut d = floats();
     let mut e = floats();
-    store_residual(boundaries, centroids, rotated, bits, fresh, &mut codes[0..n], &mut d[0..n], &mut e[0..n], block, block2)
+    store_residual(
+        boundaries,
+        centroids,
+        rotated,
+        bits,
+        fresh,
+        &mut codes[0..n],
+        &mut d[0..n],
+        &mut e[0..n],
+        block,
+        block2,
+    )
 }
 
 // Whether a vector of so many entries can be coded as the header says, into blocks of so many bytes.
-fn is_encodable(header: Header, boundaries: usize, entries: usize, block: usize, block2: usize) -> bool
+fn is_encodable(
+    header: Header,
+    boundaries: usize,
+    entries: usize,
+    block: usize,
+    block2: usize,
+) -> bool
     ensures { λ r. ⌜ r ≡ encodable header boundaries entries block block2 ⌝ }
 {
     if !is_rotatable(header.working, entries, 4096) {
@@ -396,14 +480,31 @@ fn is_encodable(header: Header, boundaries: usize, entries: usize, block: usize,
 }
 
 // A vector, rotated, into the slot's blocks.
-fn store_vector(header: Header, fresh: bool, boundaries: &[f32], centroids: &[f32], v: &[f32], rotated: &mut [f32], block: &mut [u8], block2: &mut [u8]) -> Scales
+fn store_vector(
+    header: Header,
+    fresh: bool,
+    boundaries: &[f32],
+    centroids: &[f32],
+    v: &[f32],
+    rotated: &mut [f32],
+    block: &mut [u8],
+    block2: &mut [u8],
+) -> Scales
     requires { ⌜ encodable header (length (now boundaries)) (length (now v)) (length (now block)) (length (now block2)) ≡ true ⌝ }
     requires { ⌜ length (now rotated) ≡ padded header ⌝ }
     ensures { λ r. ⌜ stages r (now (block .exit)) (now (block2 .exit)) ≡ placed (encoded (table (now (boundaries .entry)) (now (centroids .entry))) header (sparesAfter fresh (header .width) (padded header) (now (block .entry)) (now (block2 .entry))) (now (v .entry))) (now (block2 .entry)) ⌝ }
 {
     rotate(header.working, header.seed, v, rotated);
     if header.residual {
-        return encode_residual(boundaries, centroids, rotated, header.width, fresh, block, block2);
+        return encode_residual(
+            boundaries,
+            centroids,
+            rotated,
+            header.width,
+            fresh,
+            block,
+            block2,
+        );
     }
     Scales {
         scale: encode_plain(boundaries, centroids, rotated, header.width, fresh, block),
@@ -412,13 +513,33 @@ fn store_vector(header: Header, fresh: bool, boundaries: &[f32], centroids: &[f3
 }
 
 // What a slot stores of a vector, into its blocks, with the scales' patterns as the result: `fresh` for an appended slot, else over the old codes.
-pub fn encode(header: Header, fresh: bool, boundaries: &[f32], centroids: &[f32], v: &[f32], block: &mut [u8], block2: &mut [u8]) -> Scales
+pub fn encode(
+    header: Header,
+    fresh: bool,
+    boundaries: &[f32],
+    centroids: &[f32],
+    v: &[f32],
+    block: &mut [u8],
+    block2: &mut [u8],
+) -> Scales
     ensures { λ r. ⌜ stages r (now (block .exit)) (now (block2 .exit)) ≡ encodedInto (table (now (boundaries .entry)) (now (centroids .entry))) header fresh (now (v .entry)) (now (block .entry)) (now (block2 .entry)) ⌝ }
 {
     if !is_encodable(header, boundaries.len(), v.len(), block.len(), block2.len()) {
-        return Scales { scale: 0, scale2: 0 };
+        return Scales {
+            scale: 0,
+            scale2: 0,
+        };
     }
     let padded = rhdh::padded_dim(header.working);
     let mut rotated = floats();
-    store_vector(header, fresh, boundaries, centroids, v, &mut rotated[0..padded], block, block2)
+    store_vector(
+        header,
+        fresh,
+        boundaries,
+        centroids,
+        v,
+        &mut rotated[0..padded],
+        block,
+        block2,
+    )
 }

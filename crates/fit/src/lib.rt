@@ -157,7 +157,17 @@ pub fn fits(
 {
     if fields_fit(index) {
         let n = index.n;
-        let room = capacity(index, codes, scales, keys, keyed, held, alive, codes2, scales2);
+        let room = capacity(
+            index,
+            codes,
+            scales,
+            keys,
+            keyed,
+            held,
+            alive,
+            codes2,
+            scales2,
+        );
         if room < n {
             return false;
         }

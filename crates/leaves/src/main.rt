@@ -17,7 +17,6 @@
 // For a half that is finite `narrows` has six answers: at the pattern p that it reads as, at p - 1 and p + 1, and at the pattern m
 // of the value midway to the next half of its sign, m - 1 and m + 1. (Past the largest finite half, 65,504, the next is taken to be
 // 65,536.) For an infinity it has those at p, p - 1 and p + 1, for a NaN the one at p. Patterns are counted modulo 2^32.
-ghost use mathlib.Core.Path.{_≡_};
 ghost use Prim.Native.Nat.{_≤_, _<_};
 ghost use lib.ListN.{length};
 use lines::Next;
@@ -114,15 +113,21 @@ fn answer(line: &[u8], out: &mut [u8]) -> usize {
         return 0;
     }
     let c = command(text::field(line, 0));
-    if c < 7 {
-        return put_reply(out, reply_to(line, c));
+    let x = numbers_of(line, c);
+    if !x.ok {
+        return unreadable(out);
     }
-    answer_run(line, c, out)
+    if c < 7 {
+        let r = reply_to(c, x.a, x.b);
+        return text::put_hex(out, 0, r.value, r.width);
+    }
+    put_run(out, line, c, x)
 }
 
 // The number of a command word: its place in the list.
 fn command(word: &[u8]) -> usize {
-    let words = b"half narrow sqrt padded levels quantize dequantize signs fwht apply halves narrows";
+    let words =
+        b"half narrow sqrt padded levels quantize dequantize signs halves narrows fwht apply";
     let n = text::field_count(words);
     let mut i = 0;
     while i < n {
@@ -134,114 +139,143 @@ fn command(word: &[u8]) -> usize {
     n
 }
 
+// ---- the numbers of a line
+
+// Up to two numbers, where the line has what its command takes.
+struct Numbers {
+    ok: bool,
+    a: u64,
+    b: u64,
+}
+
+fn numbers_of(line: &[u8], c: usize) -> Numbers {
+    match c {
+        0 => one(line, 0xFFFF),
+        1 | 2 => one(line, 0xFFFF_FFFF),
+        3 => one(line, u64::MAX),
+        4 => one(line, 0xFF),
+        5 => two(line, 3, 0xFF, 0xFFFF_FFFF),
+        6 => two(line, 3, 0xFF, 0xFF),
+        7 => two(line, 3, u64::MAX, 4096),
+        8 | 9 => range(line),
+        10 => Numbers {
+            ok: text::field_count(line) == 2,
+            a: 0,
+            b: 0,
+        },
+        11 => two(line, 4, 4096, u64::MAX),
+        _ => no_numbers(),
+    }
+}
+
+fn no_numbers() -> Numbers {
+    Numbers {
+        ok: false,
+        a: 0,
+        b: 0,
+    }
+}
+
+// The one number of the line, at most `most`.
+fn one(line: &[u8], most: u64) -> Numbers {
+    let a = number_at(line, 1, most);
+    Numbers {
+        ok: a.ok && text::field_count(line) == 2,
+        a: a.value,
+        b: 0,
+    }
+}
+
+// The first two numbers of a line that has count fields.
+fn two(line: &[u8], count: usize, most_a: u64, most_b: u64) -> Numbers {
+    if text::field_count(line) != count {
+        return no_numbers();
+    }
+    let a = number_at(line, 1, most_a);
+    let b = number_at(line, 2, most_b);
+    Numbers {
+        ok: a.ok && b.ok,
+        a: a.value,
+        b: b.value,
+    }
+}
+
+// Two numbers of at most 65,536, the second at most 4,096 above the first and not below it.
+fn range(line: &[u8]) -> Numbers {
+    let x = two(line, 3, 0x10000, 0x10000);
+    if x.b < x.a {
+        return no_numbers();
+    }
+    if 4096 < x.b - x.a {
+        return no_numbers();
+    }
+    x
+}
+
+struct Value {
+    ok: bool,
+    value: u64,
+}
+
+// Field i as a number, at most `most`.
+fn number_at(line: &[u8], i: usize, most: u64) -> Value {
+    match text::read_number(text::field(line, i)) {
+        Number::Value(n) => Value {
+            ok: n <= most,
+            value: n,
+        },
+        Number::NoNumber => Value {
+            ok: false,
+            value: 0,
+        },
+    }
+}
+
 // ---- commands that answer with one number
 
 // A number, and the fewest digits to print it with.
-enum Reply {
-    Number(u64, usize),
-    Unreadable,
+struct Reply {
+    value: u64,
+    width: usize,
 }
 
-fn put_reply(out: &mut [u8], r: Reply) -> usize {
-    match r {
-        Reply::Number(n, width) => text::put_hex(out, 0, n, width),
-        Reply::Unreadable => unreadable(out),
-    }
-}
-
-fn reply_to(line: &[u8], c: usize) -> Reply {
+fn reply_to(c: usize, a: u64, b: u64) -> Reply {
     match c {
-        0 => half_reply(line),
-        1 => narrow_reply(line),
-        2 => sqrt_reply(line),
-        3 => padded_reply(line),
-        4 => levels_reply(line),
-        5 => quantize_reply(line),
-        6 => dequantize_reply(line),
-        _ => Reply::Unreadable,
+        0 => shown(half::f16_bits_to_f32((a % 0x10000) as u16) as u64, 8),
+        1 => shown(narrow((a % 0x1_0000_0000) as u32), 4),
+        2 => shown_float(sqrt::sqrt(float(a))),
+        3 => shown(rhdh::padded_dim(a as usize) as u64, 1),
+        4 => shown(lloyd::levels((a % 0x100) as u8) as u64, 1),
+        5 => shown(lloyd::quantize(float(b), (a % 0x100) as u8) as u64, 1),
+        _ => shown_float(lloyd::dequantize((b % 0x100) as u8, (a % 0x100) as u8)),
     }
 }
 
-fn half_reply(line: &[u8]) -> Reply {
-    let h = one(line, 0xFFFF);
-    if h.ok {
-        return Reply::Number(half::f16_bits_to_f32(h.value as u16) as u64, 8);
+fn shown(value: u64, width: usize) -> Reply {
+    Reply {
+        value: value,
+        width: width,
     }
-    Reply::Unreadable
 }
 
-fn narrow_reply(line: &[u8]) -> Reply {
-    let p = one(line, 0xFFFF_FFFF);
-    if p.ok {
-        return Reply::Number(narrow(p.value as u32), 4);
-    }
-    Reply::Unreadable
+fn shown_float(x: f32) -> Reply {
+    shown(pattern::to_bits(x) as u64, 8)
 }
 
-fn sqrt_reply(line: &[u8]) -> Reply {
-    let p = one(line, 0xFFFF_FFFF);
-    if p.ok {
-        return shown_pattern(sqrt::sqrt(pattern::from_bits(p.value as u32)));
-    }
-    Reply::Unreadable
-}
-
-fn padded_reply(line: &[u8]) -> Reply {
-    let dim = one(line, u64::MAX);
-    if dim.ok {
-        return Reply::Number(rhdh::padded_dim(dim.value as usize) as u64, 1);
-    }
-    Reply::Unreadable
-}
-
-fn levels_reply(line: &[u8]) -> Reply {
-    let w = one(line, 0xFF);
-    if w.ok {
-        return Reply::Number(lloyd::levels(w.value as u8) as u64, 1);
-    }
-    Reply::Unreadable
-}
-
-fn quantize_reply(line: &[u8]) -> Reply {
-    let x = two(line, 3, 0xFF, 0xFFFF_FFFF);
-    if x.ok {
-        let code = lloyd::quantize(pattern::from_bits(x.b as u32), x.a as u8);
-        return Reply::Number(code as u64, 1);
-    }
-    Reply::Unreadable
-}
-
-fn dequantize_reply(line: &[u8]) -> Reply {
-    let x = two(line, 3, 0xFF, 0xFF);
-    if x.ok {
-        return shown_pattern(lloyd::dequantize(x.b as u8, x.a as u8));
-    }
-    Reply::Unreadable
-}
-
-fn shown_pattern(x: f32) -> Reply {
-    Reply::Number(pattern::to_bits(x) as u64, 8)
+fn float(p: u64) -> f32 {
+    pattern::from_bits((p % 0x1_0000_0000) as u32)
 }
 
 // ---- commands that answer with a run
 
-fn answer_run(line: &[u8], c: usize, out: &mut [u8]) -> usize {
+fn put_run(out: &mut [u8], line: &[u8], c: usize, x: Numbers) -> usize {
     match c {
-        7 => answer_signs(line, out),
-        8 => answer_fwht(line, out),
-        9 => answer_apply(line, out),
-        10 => answer_halves(line, out),
-        11 => answer_narrows(line, out),
-        _ => unreadable(out),
+        7 => put_signs(out, x.a, x.b),
+        8 => put_halves(out, x.a, x.b),
+        9 => put_narrows(out, x.a, x.b),
+        10 => put_transformed(out, line, 1, false, x),
+        _ => put_transformed(out, line, 3, true, x),
     }
-}
-
-fn answer_signs(line: &[u8], out: &mut [u8]) -> usize {
-    let x = two(line, 3, u64::MAX, 4096);
-    if x.ok {
-        return put_signs(out, x.a, x.b);
-    }
-    unreadable(out)
 }
 
 fn put_signs(out: &mut [u8], seed: u64, n: u64) -> usize {
@@ -261,120 +295,29 @@ fn sign_byte(sign: f32) -> u8 {
     if sign < 0.0 { b'-' } else { b'+' }
 }
 
-fn answer_fwht(line: &[u8], out: &mut [u8]) -> usize {
-    if text::field_count(line) != 2 {
-        return unreadable(out);
-    }
-    answer_vector(line, 1, no_args(), out)
-}
-
-fn answer_apply(line: &[u8], out: &mut [u8]) -> usize {
-    let by = two(line, 4, 4096, u64::MAX);
-    if by.ok {
-        return answer_vector(line, 3, by, out);
-    }
-    unreadable(out)
-}
-
-// The vector in field i: padded and signed by a size and a seed, where these are given, and transformed.
-fn answer_vector(line: &[u8], i: usize, by: Args, out: &mut [u8]) -> usize {
-    let mut v = entries();
-    let x = vector_at(line, i, &mut v);
-    let n = x.length;
-    if x.ok {
-        return put_transformed(out, by, &mut v[0..n]);
-    }
-    unreadable(out)
-}
-
-fn put_transformed(out: &mut [u8], by: Args, v: &mut [f32]) -> usize {
-    if by.ok {
-        return put_applied(out, Rhdh::new(by.a as usize, by.b), v);
-    }
-    rhdh::fwht(v);
-    put_vector(out, v)
-}
-
-fn put_applied(out: &mut [u8], rotation: Rhdh, v: &[f32]) -> usize {
-    let padded = rotation.padded;
-    if 4096 < padded {
-        return unreadable(out);
-    }
-    let mut w = entries();
-    put_rotated(out, rotation, v, &mut w[0..padded])
-}
-
-fn put_rotated(out: &mut [u8], rotation: Rhdh, v: &[f32], w: &mut [f32]) -> usize {
-    rotation.apply(v, w);
-    put_vector(out, w)
-}
-
-// The vector, at the front of out.
-fn put_vector(out: &mut [u8], v: &[f32]) -> usize {
-    if v.len() == 0 {
-        return text::put_byte(out, 0, b'-');
-    }
-    let mut at = 0;
-    let mut i = 0;
-    while i < v.len() {
-        at = text::put_hex(out, at, pattern::to_bits(v[i]) as u64, 8);
-        i += 1;
-    }
-    at
-}
-
-fn answer_halves(line: &[u8], out: &mut [u8]) -> usize {
-    let x = range(line);
-    if x.ok {
-        return put_halves(out, x.a, x.b);
-    }
-    unreadable(out)
-}
-
-fn put_halves(out: &mut [u8], from: u64, to: u64) -> usize
-    requires { ⌜ to ≤ 65536 ⌝ }
-{
+fn put_halves(out: &mut [u8], from: u64, to: u64) -> usize {
     let mut at = 0;
     let mut h = from;
     while h < to {
-        at = text::put_hex(out, at, half::f16_bits_to_f32(h as u16) as u64, 8);
+        at = text::put_hex(
+            out,
+            at,
+            half::f16_bits_to_f32((h % 0x10000) as u16) as u64,
+            8,
+        );
         h += 1;
     }
     at
 }
 
-fn answer_narrows(line: &[u8], out: &mut [u8]) -> usize {
-    let x = range(line);
-    if x.ok {
-        return put_narrows(out, x.a, x.b);
-    }
-    unreadable(out)
-}
-
-fn put_narrows(out: &mut [u8], from: u64, to: u64) -> usize
-    requires { ⌜ to ≤ 65536 ⌝ }
-{
+fn put_narrows(out: &mut [u8], from: u64, to: u64) -> usize {
     let mut at = 0;
     let mut h = from;
     while h < to {
-        at = put_narrows_of(out, at, h as u16);
+        at = put_narrows_of(out, at, (h % 0x10000) as u16);
         h += 1;
     }
     at
-}
-
-// The line's two halves, the second at most 4,096 above the first.
-fn range(line: &[u8]) -> Args
-    ensures { λ r. ⌜ r .b ≤ 65536 ⌝ }
-{
-    let x = two(line, 3, 0x10000, 0x10000);
-    if x.b < x.a {
-        return no_args();
-    }
-    if 4096 < x.b - x.a {
-        return no_args();
-    }
-    x
 }
 
 fn put_narrows_of(out: &mut [u8], at: usize, h: u16) -> usize {
@@ -418,58 +361,56 @@ fn midpoint(h: u16) -> u32 {
     ((p as u64 + next as u64) / 2) as u32
 }
 
-// ---- the fields of a line
-
-struct Arg {
-    ok: bool,
-    value: u64,
+// The vector in field i: rotated by a size and a seed, or only transformed.
+fn put_transformed(out: &mut [u8], line: &[u8], i: usize, rotated: bool, x: Numbers) -> usize {
+    let mut v = entries();
+    let y = vector_at(line, i, &mut v);
+    let n = y.length;
+    if !y.ok {
+        return unreadable(out);
+    }
+    if rotated {
+        return put_rotated(out, Rhdh::new(x.a as usize, x.b), &v[0..n]);
+    }
+    put_fwht(out, &mut v[0..n])
 }
 
-struct Args {
-    ok: bool,
-    a: u64,
-    b: u64,
+fn put_fwht(out: &mut [u8], v: &mut [f32]) -> usize {
+    rhdh::fwht(v);
+    put_vector(out, v)
+}
+
+fn put_rotated(out: &mut [u8], rotation: Rhdh, v: &[f32]) -> usize {
+    let padded = rotation.padded;
+    if 4096 < padded {
+        return unreadable(out);
+    }
+    let mut w = entries();
+    put_applied(out, rotation, v, &mut w[0..padded])
+}
+
+fn put_applied(out: &mut [u8], rotation: Rhdh, v: &[f32], w: &mut [f32]) -> usize {
+    rotation.apply(v, w);
+    put_vector(out, w)
+}
+
+// The vector, at the front of out.
+fn put_vector(out: &mut [u8], v: &[f32]) -> usize {
+    if v.len() == 0 {
+        return text::put_byte(out, 0, b'-');
+    }
+    let mut at = 0;
+    let mut i = 0;
+    while i < v.len() {
+        at = text::put_hex(out, at, pattern::to_bits(v[i]) as u64, 8);
+        i += 1;
+    }
+    at
 }
 
 struct Vector {
     ok: bool,
     length: usize,
-}
-
-// The line's one number, at most `most`.
-fn one(line: &[u8], most: u64) -> Arg
-    ensures { λ r. ⌜ r .value ≤ most ⌝ }
-{
-    if text::field_count(line) != 2 {
-        return no_arg();
-    }
-    number_at(line, 1, most)
-}
-
-// The first two numbers of a line that has count fields.
-fn two(line: &[u8], count: usize, most_a: u64, most_b: u64) -> Args
-    ensures { λ r. ⌜ (r .a ≤ «most_a») × (r .b ≤ «most_b») ⌝ }
-{
-    if text::field_count(line) != count {
-        return no_args();
-    }
-    let a = number_at(line, 1, most_a);
-    let b = number_at(line, 2, most_b);
-    Args {
-        ok: a.ok && b.ok,
-        a: a.value,
-        b: b.value,
-    }
-}
-
-// Field i as a number, at most `most`.
-fn number_at(line: &[u8], i: usize, most: u64) -> Arg
-    ensures { λ r. ⌜ r .value ≤ most ⌝ }
-{
-    match text::read_number(text::field(line, i)) {
-        Number::Value(n) => at_most(n, most),
-        Number::NoNumber => no_arg(),
-    }
 }
 
 // Field i as a vector, read into the first entries of v.
@@ -485,33 +426,5 @@ fn vector_at(line: &[u8], i: usize, v: &mut [f32]) -> Vector
             ok: false,
             length: 0,
         },
-    }
-}
-
-fn at_most(n: u64, most: u64) -> Arg
-    ensures { λ r. ⌜ r .value ≤ most ⌝ }
-{
-    if n <= most {
-        return Arg { ok: true, value: n };
-    }
-    no_arg()
-}
-
-fn no_arg() -> Arg
-    ensures { λ r. ⌜ r .value ≡ 0 ⌝ }
-{
-    Arg {
-        ok: false,
-        value: 0,
-    }
-}
-
-fn no_args() -> Args
-    ensures { λ r. ⌜ (r .a ≡ 0) × (r .b ≡ 0) ⌝ }
-{
-    Args {
-        ok: false,
-        a: 0,
-        b: 0,
     }
 }
