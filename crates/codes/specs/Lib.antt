@@ -2,3 +2,4 @@
 pub mod Packing
 pub mod Writing
 pub mod Slots
+pub mod Stage

@@ -24,7 +24,8 @@ use Rattle.codes.specs.Writing.{written}
 use Rattle.codes.proofs.Tests.{Packable, written-yes}
 use Rattle.encode.specs.declared.Scales.{Scales}
 use Rattle.encode.specs.Encode.{norm, dot, divided, table, coded, decoded, dequantized, plainScale, plain, floor, differences, rest, rootMeanSquare, scaled, joinedNorm, firstScale, secondScale, residual}
-use Rattle.encode.specs.Coded.{stage, stored}
+use Rattle.codes.specs.Stage.{stage}
+use Rattle.encode.specs.Coded.{stored}
 use Rattle.encode.specs.Calls.{fits, spareAfter, plainInto, Stages, stages, untouchedBoth, sparesAfter, storedBoth, residualInto}
 use Rattle.encode.proofs.Filling.{length-divided, length-differences, length-decoded}
 use Rattle.encode.proofs.Fit.{Fits}

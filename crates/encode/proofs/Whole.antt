@@ -11,7 +11,8 @@ use lib.Ieee.{Float}
 use Rattle.encode.specs.declared.Scales.{Scales}
 use Rattle.encode.specs.Header.{Header, padded}
 use Rattle.encode.specs.Encode.{table}
-use Rattle.encode.specs.Coded.{Stage, stage, rotatedOf, encoded}
+use Rattle.codes.specs.Stage.{Stage, stage}
+use Rattle.encode.specs.Coded.{rotatedOf, encoded}
 use Rattle.encode.specs.Calls.{rotatable, rotatedInto, fits, plainInto, Stages, untouched, untouchedBoth, sparesAfter, residualInto, encodable, placed, encodedInto}
 use Rattle.encode.proofs.Fit.{Rotatable, is-rotatable, is-fit, Encodable, encodable-of}
 use Rattle.encode.proofs.Vectors.{rotated-whole, length-rotated}

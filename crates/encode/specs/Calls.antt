@@ -14,7 +14,8 @@ use Rattle.codes.specs.Writing.{isWidth}
 use Rattle.encode.specs.declared.Scales.{Scales}
 use Rattle.encode.specs.Header.{Header, padded}
 use Rattle.encode.specs.Encode.{Table, Codings, rotatedBy, rnorm, prepared, plain, residual}
-use Rattle.encode.specs.Coded.{Stage, stage, Code, Spare, stored, encoded}
+use Rattle.codes.specs.Stage.{Stage, stage}
+use Rattle.encode.specs.Coded.{Code, Spare, stored, encoded}
 
 -- ---- rotation
 

@@ -5,16 +5,9 @@ use mathlib.Core.Option.{Option, none, some}
 use Prim.Native.Nat.{ℕ}
 use lib.Ieee.{Float}
 use Rattle.codes.specs.Packing.{packed, spare}
+use Rattle.codes.specs.Stage.{Stage, stage}
 use Rattle.encode.specs.Header.{Header, padded}
 use Rattle.encode.specs.Encode.{Table, Coding, vectorFault, rotatedBy, plain, residual}
-
--- a scale as a binary32 pattern, and the block of code bytes
-pub record Stage : Type 0 where
-  pub scale : ℕ
-  pub block : List ℕ
-
-abbrev pub stage : (scale : ℕ) → (block : List ℕ) → Stage
-stage scale block = record { scale = scale; block = block }
 
 pub record Code : Type 0 where
   pub first : Stage

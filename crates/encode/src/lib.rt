@@ -11,7 +11,8 @@ ghost use Rattle.codes.specs.Packing.{packed};
 ghost use Rattle.codes.specs.Writing.{written};
 ghost use Rattle.encode.specs.Encode.{sumFault, vectorFault, norm, divided, unit, rotatedBy, rnorm, prepared, table, coded, decoded, dequantized, floor, differences, dot, rootMeanSquare, scaled, plain, residual, joinedNorm, firstScale, secondScale};
 ghost use Rattle.encode.specs.Header.{padded};
-ghost use Rattle.encode.specs.Coded.{stage, stored, encoded};
+ghost use Rattle.codes.specs.Stage.{stage};
+ghost use Rattle.encode.specs.Coded.{stored, encoded};
 ghost use Rattle.encode.specs.Calls.{rotatable, rotatedInto, query, preparedInto, fits, spareAfter, plainInto, stages, sparesAfter, storedBoth, residualInto, encodable, placed, encodedInto};
 
 // What fixes how a vector is coded, and stays while slots are in use.

@@ -17,7 +17,7 @@ use Rattle.lists.proofs.Keep.{count-append, count-map, count-same, each-mem}
 use Rattle.lists.proofs.Front.{over-own, map-tab, tab-map, getD-over-map, each-map, map-each, each-tab, tab-each}
 use Rattle.encode.specs.declared.Header.{Header}
 use Rattle.encode.specs.Header.{blockSize}
-use Rattle.encode.specs.Coded.{Stage}
+use Rattle.codes.specs.Stage.{Stage}
 use Rattle.codes.specs.Slots.{blockAt}
 use Rattle.index.specs.declared.Index.{Index}
 use Rattle.index.specs.Arrays.{Arrays}

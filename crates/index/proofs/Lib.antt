@@ -7,3 +7,4 @@ pub mod Refusals
 pub mod Encoded
 pub mod Changes
 pub mod Kept
+pub mod Calls

@@ -13,8 +13,7 @@ use Rattle.lists.specs.Keep.{bit, count, Each}
 use Rattle.lists.proofs.Keep.{each-mem, each-weaken, count-same, count-share, count-none, count-map}
 use Rattle.lists.proofs.Front.{each-count}
 use Rattle.index.specs.State.{Mark, dead, unkeyed, keyed, aliveOf, hasKey, keyWord, position}
-use Rattle.index.specs.Fit as Fit
-use Rattle.index.specs.Fit.{Row, positioned}
+use Rattle.index.specs.Fit.{Row, ofKey, ofKeyAt, positioned}
 use Rattle.index.specs.Step.{holds, holdsAt}
 use Rattle.index.specs.Sound.{OnceEach}
 
@@ -50,12 +49,12 @@ below-suc p h =
 abbrev pub rowOf : Mark → Row
 rowOf m = record { key = keyWord m; keyed = hasKey m; held = position m; alive = aliveOf m }
 
-row-key : (k : ℕ) (m : Mark) → Fit.hasKey k (rowOf m) ≡ holds k m
+row-key : (k : ℕ) (m : Mark) → ofKey k (rowOf m) ≡ holds k m
 row-key k (dead u) = refl
 row-key k (unkeyed u) = refl
 row-key k (keyed j p) = refl
 
-row-holds : (k i : ℕ) (m : Mark) → Fit.holds k i (rowOf m) ≡ holdsAt k i m
+row-holds : (k i : ℕ) (m : Mark) → ofKeyAt k i (rowOf m) ≡ holdsAt k i m
 row-holds k i (dead u) = refl
 row-holds k i (unkeyed u) = refl
 row-holds k i (keyed j p) = refl
@@ -64,11 +63,11 @@ module _ (ms : List Mark) where
   abbrev pub Positioned : Mark → Type 0
   Positioned m = positioned (map rowOf ms) (rowOf m) ≡ true
 
-  count-key : (k : ℕ) → count (Fit.hasKey k) (map rowOf ms) ≡ count (holds k) ms
-  count-key k = count-map rowOf (Fit.hasKey k) ms ∙ count-same (λ m. Fit.hasKey k (rowOf m)) (holds k) ms (each-mem (λ m. Fit.hasKey k (rowOf m) ≡ holds k m) ms (λ m e. row-key k m))
+  count-key : (k : ℕ) → count (ofKey k) (map rowOf ms) ≡ count (holds k) ms
+  count-key k = count-map rowOf (ofKey k) ms ∙ count-same (λ m. ofKey k (rowOf m)) (holds k) ms (each-mem (λ m. ofKey k (rowOf m) ≡ holds k m) ms (λ m e. row-key k m))
 
-  count-at : (k i : ℕ) → count (Fit.holds k i) (map rowOf ms) ≡ count (holdsAt k i) ms
-  count-at k i = count-map rowOf (Fit.holds k i) ms ∙ count-same (λ m. Fit.holds k i (rowOf m)) (holdsAt k i) ms (each-mem (λ m. Fit.holds k i (rowOf m) ≡ holdsAt k i m) ms (λ m e. row-holds k i m))
+  count-at : (k i : ℕ) → count (ofKeyAt k i) (map rowOf ms) ≡ count (holdsAt k i) ms
+  count-at k i = count-map rowOf (ofKeyAt k i) ms ∙ count-same (λ m. ofKeyAt k i (rowOf m)) (holdsAt k i) ms (each-mem (λ m. ofKeyAt k i (rowOf m) ≡ holdsAt k i m) ms (λ m e. row-holds k i m))
 
   keyed-test : (k p : ℕ) → positioned (map rowOf ms) (rowOf (keyed k p)) ≡ (ltb p (count (holds k) ms) && eqb (count (holdsAt k p) ms) 1)
   unfolding positioned

@@ -14,7 +14,7 @@ use Rattle.lists.proofs.Keep.{each-weaken}
 use Rattle.lists.proofs.Front.{tab-is, getD-over-map, each-map, each-at}
 use Rattle.encode.specs.declared.Header.{Header}
 use Rattle.encode.specs.Header.{blockSize}
-use Rattle.encode.specs.Coded.{Stage}
+use Rattle.codes.specs.Stage.{Stage}
 use Rattle.index.specs.Arrays.{Arrays}
 use Rattle.index.specs.State.{Mark, dead, unkeyed, keyed, Slot, State, rooms, least, capacity, markOf, stageAt, slotAt, stateOf, recordOf, aliveOf, hasKey, keyWord, position, joined, seconds, scalesOf, blocksOf, overlay}
 use Rattle.index.specs.Sound.{Shaped, AllShaped, blockLength}

@@ -1,7 +1,6 @@
 -- Encoding, scoring and cascade distance as the header fixes them: the definitions of the crates below at its table, padded size and seed.
 use mathlib.Core.Bool.{Bool, _&&_}
 use mathlib.Core.List.{List, [], _∷_, map}
-use mathlib.Core.Option.{none, some}
 use Prim.Native.Nat.{ℕ, _+_, _-_, _/_}
 use lib.Dec.{eqb}
 use lib.Ieee.{Float}
@@ -15,7 +14,7 @@ use Rattle.encode.specs.Header.{padded}
 use Rattle.encode.specs.Encode.{Table, rnorm, prepared}
 use Rattle.encode.specs.Coded as Coded
 use Rattle.encode.specs.Coded.{Code, Spare, rotatedOf}
-use Rattle.score.specs.Score as Score
+use Rattle.score.specs.Score.{slotScore}
 
 abbrev pub tableOf : Header → Table
 tableOf h = record { boundaries = boundariesOf (h .width); centroids = centroidsOf (h .width) }
@@ -25,11 +24,8 @@ encoded h above v = Coded.encoded (tableOf h) h above v
 
 -- ---- scoring
 
-abbrev pub scored : Coded.Stage → Score.Stage
-scored g = record { scale = g .scale; block = g .block }
-
 unfoldable pub scoreOf : Header → (query : List Float) → Code → Float
-scoreOf h q c = Score.slotScore (h .width) (centroidsOf (h .width)) (prepared (rotatedOf h q)) (scored (c .first)) (elim (c .second) [ none ↦ none | some g ↦ some (scored g) ])
+scoreOf h q c = slotScore (h .width) (centroidsOf (h .width)) (prepared (rotatedOf h q)) (c .first) (c .second)
 
 -- 01, 10: "padded size 1 at 4 bits"
 abbrev pub tiny : Header → Bool

@@ -10,7 +10,8 @@ use lib.Dec.{eqb}
 use Rattle.digits.specs.Digits.{digits}
 use Rattle.half.specs.Half.{narrowed}
 use Rattle.encode.specs.declared.Header.{Header}
-use Rattle.encode.specs.Coded.{Stage, Code}
+use Rattle.codes.specs.Stage.{Stage}
+use Rattle.encode.specs.Coded.{Code}
 use Rattle.index.specs.State.{joined}
 
 -- what of a live slot is written

@@ -36,16 +36,16 @@ rowAt a i = record { key = getD (a .keys) i 0; keyed = getD (a .keyed) i false; 
 abbrev pub rows : Index → Arrays → List Row
 rows x a = tab (rowAt a) (x .n)
 
-abbrev pub hasKey : ℕ → Row → Bool
-hasKey k r = r .keyed && eqb (r .key) k
+abbrev pub ofKey : ℕ → Row → Bool
+ofKey k r = r .keyed && eqb (r .key) k
 
-abbrev pub holds : ℕ → ℕ → Row → Bool
-holds k p r = hasKey k r && eqb (r .held) p
+abbrev pub ofKeyAt : (key position : ℕ) → Row → Bool
+ofKeyAt k p r = ofKey k r && eqb (r .held) p
 
 -- among the t slots of its key, a slot's position is below t and no other's
 unfoldable pub positioned : List Row → Row → Bool
 positioned rs r =
-    cond (r .keyed) (ltb (r .held) (count (hasKey (r .key)) rs) && eqb (count (holds (r .key) (r .held)) rs) 1) (eqb (r .held) 0)
+    cond (r .keyed) (ltb (r .held) (count (ofKey (r .key)) rs) && eqb (count (ofKeyAt (r .key) (r .held)) rs) 1) (eqb (r .held) 0)
 
 unfoldable pub fit : Index → Arrays → Bool
 fit x a =

@@ -6,4 +6,6 @@ pub mod Codec
 pub mod File
 pub mod Step
 pub mod Call
+pub mod Make
+pub mod Answers
 pub mod Sound

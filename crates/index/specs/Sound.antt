@@ -9,7 +9,8 @@ use lib.Dec.{ltb, eqb}
 use Rattle.lists.specs.Keep.{bit, count, Each}
 use Rattle.encode.specs.declared.Header.{Header}
 use Rattle.encode.specs.Header.{blockSize}
-use Rattle.encode.specs.Coded.{Stage, Code}
+use Rattle.codes.specs.Stage.{Stage}
+use Rattle.encode.specs.Coded.{Code}
 use Rattle.index.specs.State.{Mark, Slot, State}
 use Rattle.index.specs.Fit.{between}
 use Rattle.index.specs.Step.{holds, holdsAt}

@@ -9,7 +9,8 @@ use Rattle.lists.specs.Keep.{count}
 use Rattle.codes.specs.Slots.{blockAt}
 use Rattle.encode.specs.declared.Header.{Header}
 use Rattle.encode.specs.Header.{blockSize}
-use Rattle.encode.specs.Coded.{Stage, Code}
+use Rattle.codes.specs.Stage.{Stage}
+use Rattle.encode.specs.Coded.{Code}
 use Rattle.index.specs.declared.Index.{Index}
 use Rattle.index.specs.Arrays.{Arrays}
 

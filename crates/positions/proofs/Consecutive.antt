@@ -10,7 +10,7 @@ use lib.Dec.{ltb, eqb}
 use borrow.Author.Tests.{ltb-true, ltb-false, eqb-true, eqb-false, lt-ltb, le-ltb, eq-eqb}
 use Rattle.lists.specs.Keep.{bit, count}
 use Rattle.lists.proofs.Keep.{each-mem, count-implied, count-same, count-share, count-none}
-use Rattle.index.specs.Fit.{Row, all, hasKey, holds, positioned}
+use Rattle.index.specs.Fit.{Row, all, ofKey, ofKeyAt, positioned}
 use Rattle.positions.specs.Decides.{Decides}
 use Rattle.positions.proofs.Decides.{decided}
 use Rattle.positions.proofs.Tests.{both, left, right, all-mem, mem-all}
@@ -33,24 +33,24 @@ module _ {X : Type 0} (p : X → Bool) where
 -- ---- a row's key and position
 
 module _ (k : ℕ) (r : Row) where
-  key-parts : hasKey k r ≡ true → (r .keyed ≡ true) × (r .key ≡ k)
+  key-parts : ofKey k r ≡ true → (r .keyed ≡ true) × (r .key ≡ k)
   key-parts e = (left (r .keyed) (eqb (r .key) k) e, eqb-true (r .key) k (right (r .keyed) (eqb (r .key) k) e))
 
-  key-made : r .keyed ≡ true → r .key ≡ k → hasKey k r ≡ true
+  key-made : r .keyed ≡ true → r .key ≡ k → ofKey k r ≡ true
   key-made e f = both (r .keyed) (eqb (r .key) k) e (eq-eqb _ _ f)
 
-  pub holds-parts : (p : ℕ) → holds k p r ≡ true → (r .keyed ≡ true) × (r .key ≡ k) × (r .held ≡ p)
-  holds-parts p e =
-      let f = key-parts (left (hasKey k r) (eqb (r .held) p) e) in
-      (f .0, f .1, eqb-true (r .held) p (right (hasKey k r) (eqb (r .held) p) e))
+  pub ofKeyAt-parts : (p : ℕ) → ofKeyAt k p r ≡ true → (r .keyed ≡ true) × (r .key ≡ k) × (r .held ≡ p)
+  ofKeyAt-parts p e =
+      let f = key-parts (left (ofKey k r) (eqb (r .held) p) e) in
+      (f .0, f .1, eqb-true (r .held) p (right (ofKey k r) (eqb (r .held) p) e))
 
-  pub holds-made : (p : ℕ) → r .keyed ≡ true → r .key ≡ k → r .held ≡ p → holds k p r ≡ true
-  holds-made p e f g = both (hasKey k r) (eqb (r .held) p) (key-made e f) (eq-eqb _ _ g)
+  pub ofKeyAt-made : (p : ℕ) → r .keyed ≡ true → r .key ≡ k → r .held ≡ p → ofKeyAt k p r ≡ true
+  ofKeyAt-made p e f g = both (ofKey k r) (eqb (r .held) p) (key-made e f) (eq-eqb _ _ g)
 
 -- ---- the positions of a key below h
 
 below : ℕ → ℕ → Row → Bool
-below k h r = hasKey k r && ltb (r .held) h
+below k h r = ofKey k r && ltb (r .held) h
 
 -- a position below h + 1 is below h, or it is h
 split : (h x : ℕ) → bit (ltb x (suc h)) ≡ bit (ltb x h) + bit (eqb x h)
@@ -66,37 +66,37 @@ split h x = go (ltb x h) (eqb x h) refl refl
         above l n = omega (arith, n)
 
 module _ (k : ℕ) (rs : List Row) where
-  below-more : (h : ℕ) → count (below k (suc h)) rs ≡ count (below k h) rs + count (holds k h) rs
+  below-more : (h : ℕ) → count (below k (suc h)) rs ≡ count (below k h) rs + count (ofKeyAt k h) rs
   unfolding below
-  below-more h = count-share (below k (suc h)) (below k h) (holds k h) rs (λ r. at (hasKey k r) (r .held))
+  below-more h = count-share (below k (suc h)) (below k h) (ofKeyAt k h) rs (λ r. at (ofKey k r) (r .held))
     where
       at : (b : Bool) (x : ℕ) → bit (b && ltb x (suc h)) ≡ bit (b && ltb x h) + bit (b && eqb x h)
       at true x = split h x
       at false x = refl
 
-  below-key : (h : ℕ) → count (below k h) rs ≤ count (hasKey k) rs
+  below-key : (h : ℕ) → count (below k h) rs ≤ count (ofKey k) rs
   unfolding below
-  below-key h = count-implied (below k h) (hasKey k) rs (λ r e. left (hasKey k r) (ltb (r .held) h) e)
+  below-key h = count-implied (below k h) (ofKey k) rs (λ r e. left (ofKey k r) (ltb (r .held) h) e)
 
   below-none : count (below k 0) rs ≡ 0
   unfolding below
   below-none = go rs
     where
-      go : (xs : List Row) → count (λ r. hasKey k r && ltb (r .held) 0) xs ≡ 0
+      go : (xs : List Row) → count (λ r. ofKey k r && ltb (r .held) 0) xs ≡ 0
       go [] = refl
-      go (x ∷ xs) = rw (le-ltb (x .held) 0 (omega arith), and-false (hasKey k x)) (omega (arith, go xs))
+      go (x ∷ xs) = rw (le-ltb (x .held) 0 (omega arith), and-false (ofKey k x)) (omega (arith, go xs))
 
 -- ---- the law
 
 -- no position of a key twice, each position above 0 with the one before, and none but 0 without a key
 pub record Consecutive (rs : List Row) : Type 0 where
-  pub once : (k p : ℕ) → count (holds k p) rs ≤ 1
-  pub next : (k p : ℕ) → 0 < count (holds k (suc p)) rs → 0 < count (holds k p) rs
+  pub once : (k p : ℕ) → count (ofKeyAt k p) rs ≤ 1
+  pub next : (k p : ℕ) → 0 < count (ofKeyAt k (suc p)) rs → 0 < count (ofKeyAt k p) rs
   pub loose : (r : Row) → List·Memᴰ r rs → r .keyed ≡ false → r .held ≡ 0
 
 module _ (rs : List Row) where
   -- a keyed row's two tests
-  keyed-test : (r : Row) → r .keyed ≡ true → positioned rs r ≡ (ltb (r .held) (count (hasKey (r .key)) rs) && eqb (count (holds (r .key) (r .held)) rs) 1)
+  keyed-test : (r : Row) → r .keyed ≡ true → positioned rs r ≡ (ltb (r .held) (count (ofKey (r .key)) rs) && eqb (count (ofKeyAt (r .key) (r .held)) rs) 1)
   unfolding positioned
   keyed-test r e = rw e
 
@@ -104,14 +104,14 @@ module _ (rs : List Row) where
   unfolding positioned
   loose-test r e = rw e
 
-  module _ (next : (k p : ℕ) → 0 < count (holds k (suc p)) rs → 0 < count (holds k p) rs) where
+  module _ (next : (k p : ℕ) → 0 < count (ofKeyAt k (suc p)) rs → 0 < count (ofKeyAt k p) rs) where
     -- a position that is held has all the lower ones below it
-    reached : (k h : ℕ) → 0 < count (holds k h) rs → h < count (below k (suc h)) rs
+    reached : (k h : ℕ) → 0 < count (ofKeyAt k h) rs → h < count (below k (suc h)) rs
     reached k zero l = omega (arith, below-more k rs 0)
     reached k (suc h) l = omega (arith, below-more k rs (suc h), reached k h (next k h l))
 
     -- so it is lower than the number of the key's slots
-    pub low : (k p : ℕ) → 0 < count (holds k p) rs → p < count (hasKey k) rs
+    pub low : (k p : ℕ) → 0 < count (ofKeyAt k p) rs → p < count (ofKey k) rs
     low k p l = omega (arith, reached k p l, below-key k rs (suc p))
 
   module _ (c : Consecutive rs) where
@@ -120,29 +120,29 @@ module _ (rs : List Row) where
       where
         at : (r : Row) → List·Memᴰ r rs → (b : Bool) → r .keyed ≡ b → positioned rs r ≡ true
         at r m true e =
-            let l = some-count (holds (r .key) (r .held)) rs m (holds-made (r .key) r (r .held) e refl refl) in
-            keyed-test r e ∙ both _ _ (lt-ltb _ _ (low (c .next) (r .key) (r .held) l)) (eq-eqb (count (holds (r .key) (r .held)) rs) 1 (omega (arith, l, c .once (r .key) (r .held))))
+            let l = some-count (ofKeyAt (r .key) (r .held)) rs m (ofKeyAt-made (r .key) r (r .held) e refl refl) in
+            keyed-test r e ∙ both _ _ (lt-ltb _ _ (low (c .next) (r .key) (r .held) l)) (eq-eqb (count (ofKeyAt (r .key) (r .held)) rs) 1 (omega (arith, l, c .once (r .key) (r .held))))
         at r m false e = loose-test r e ∙ eq-eqb _ _ (c .loose r m e)
 
   module _ (f : all (positioned rs) rs ≡ true) where
-    -- what the test says of a row that holds a position
-    held-parts : (k p : ℕ) (r : Row) → List·Memᴰ r rs → holds k p r ≡ true → (p < count (hasKey k) rs) × (count (holds k p) rs ≡ 1)
+    -- what the test says of a row that ofKeyAt a position
+    held-parts : (k p : ℕ) (r : Row) → List·Memᴰ r rs → ofKeyAt k p r ≡ true → (p < count (ofKey k) rs) × (count (ofKeyAt k p) rs ≡ 1)
     held-parts k p r m e =
-        let u = holds-parts k r p e in
+        let u = ofKeyAt-parts k r p e in
         let t = sym (keyed-test r (u .0)) ∙ all-mem (positioned rs) m f in
-        let x = ltb (r .held) (count (hasKey (r .key)) rs) in
-        let y = eqb (count (holds (r .key) (r .held)) rs) 1 in (
-          rw (u .1, u .2) at (ltb-true (r .held) (count (hasKey (r .key)) rs) (left x y t)),
-          rw (u .1, u .2) at (eqb-true (count (holds (r .key) (r .held)) rs) 1 (right x y t)),
+        let x = ltb (r .held) (count (ofKey (r .key)) rs) in
+        let y = eqb (count (ofKeyAt (r .key) (r .held)) rs) 1 in (
+          rw (u .1, u .2) at (ltb-true (r .held) (count (ofKey (r .key)) rs) (left x y t)),
+          rw (u .1, u .2) at (eqb-true (count (ofKeyAt (r .key) (r .held)) rs) 1 (right x y t)),
         )
 
-    at-most-once : (k p : ℕ) → count (holds k p) rs ≤ 1
+    at-most-once : (k p : ℕ) → count (ofKeyAt k p) rs ≤ 1
     at-most-once k p =
-        ⊎-elim (λ z. omega arith) (λ l. let s = count-some (holds k p) rs l in omega (arith, held-parts k p (s .0) (s .1) (s .2) .1))
-        (eq-zero-or-pos (count (holds k p) rs))
+        ⊎-elim (λ z. omega arith) (λ l. let s = count-some (ofKeyAt k p) rs l in omega (arith, held-parts k p (s .0) (s .1) (s .2) .1))
+        (eq-zero-or-pos (count (ofKeyAt k p) rs))
 
     -- without position p fewer than h of the key's slots lie below any h past p
-    gap : (k p : ℕ) → count (holds k p) rs ≡ 0 → (d : ℕ) → count (below k (suc (d + p))) rs ≤ d + p
+    gap : (k p : ℕ) → count (ofKeyAt k p) rs ≡ 0 → (d : ℕ) → count (below k (suc (d + p))) rs ≤ d + p
     gap k p z zero = rw (zero-add p) (omega (arith, below-more k rs p, fill k p))
       where
         fill : (k h : ℕ) → count (below k h) rs ≤ h
@@ -151,26 +151,26 @@ module _ (rs : List Row) where
     gap k p z (suc d) = rw (suc-add d p) (omega (arith, below-more k rs (suc (d + p)), gap k p z d, at-most-once k (suc (d + p))))
 
     -- all of a key's slots lie below their number
-    full : (k : ℕ) → count (below k (count (hasKey k) rs)) rs ≡ count (hasKey k) rs
+    full : (k : ℕ) → count (below k (count (ofKey k) rs)) rs ≡ count (ofKey k) rs
     unfolding below
-    full k = count-same (below k (count (hasKey k) rs)) (hasKey k) rs (each-mem _ rs (λ r m. at r m (hasKey k r) refl))
+    full k = count-same (below k (count (ofKey k) rs)) (ofKey k) rs (each-mem _ rs (λ r m. at r m (ofKey k r) refl))
       where
-        at : (r : Row) → List·Memᴰ r rs → (b : Bool) → hasKey k r ≡ b → (hasKey k r && ltb (r .held) (count (hasKey k) rs)) ≡ hasKey k r
+        at : (r : Row) → List·Memᴰ r rs → (b : Bool) → ofKey k r ≡ b → (ofKey k r && ltb (r .held) (count (ofKey k) rs)) ≡ ofKey k r
         at r m true e =
             let u = key-parts k r e in
-            rw (e, lt-ltb _ _ (held-parts k (r .held) r m (holds-made k r (r .held) (u .0) (u .1) refl) .0))
+            rw (e, lt-ltb _ _ (held-parts k (r .held) r m (ofKeyAt-made k r (r .held) (u .0) (u .1) refl) .0))
         at r m false e = rw e
 
-    preceded : (k p : ℕ) → 0 < count (holds k (suc p)) rs → 0 < count (holds k p) rs
+    preceded : (k p : ℕ) → 0 < count (ofKeyAt k (suc p)) rs → 0 < count (ofKeyAt k p) rs
     preceded k p l =
-        ⊎-elim (λ z. absurd (none z)) (λ h. h) (eq-zero-or-pos (count (holds k p) rs))
+        ⊎-elim (λ z. absurd (none z)) (λ h. h) (eq-zero-or-pos (count (ofKeyAt k p) rs))
       where
-        none : count (holds k p) rs ≡ 0 → ⊥
+        none : count (ofKeyAt k p) rs ≡ 0 → ⊥
         none z =
-            let s = count-some (holds k (suc p)) rs l in
+            let s = count-some (ofKeyAt k (suc p)) rs l in
             let t = held-parts k (suc p) (s .0) (s .1) (s .2) .0 in
-            let e : suc (count (hasKey k) rs - suc p + p) ≡ count (hasKey k) rs = omega (arith, t) in
-            let g = rw e at (gap k p z (count (hasKey k) rs - suc p)) in
+            let e : suc (count (ofKey k) rs - suc p + p) ≡ count (ofKey k) rs = omega (arith, t) in
+            let g = rw e at (gap k p z (count (ofKey k) rs - suc p)) in
             omega (arith, g, full k, t)
 
     fits-consecutive : Consecutive rs

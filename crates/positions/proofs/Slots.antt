@@ -11,12 +11,12 @@ use Rattle.lists.specs.Lists.{tab}
 use Rattle.lists.specs.Keep.{bit, count}
 use Rattle.lists.proofs.Laws.{length-tab}
 use Rattle.lists.proofs.Keep.{count-append, count-length}
-use Rattle.index.specs.Fit.{Row, all, hasKey, holds, positioned}
+use Rattle.index.specs.Fit.{Row, all, ofKey, ofKeyAt, positioned}
 use Rattle.positions.specs.Decides.{Decides}
 use Rattle.positions.specs.Positions.{Keys, hasRoom, rowOf, rowsOf, positionsFit, Room, Holds, Ordered}
 use Rattle.positions.proofs.Decides.{decided, decides-true}
 use Rattle.positions.proofs.Tests.{both, left, right, each, nothing, also, all-mem, mem-all}
-use Rattle.positions.proofs.Consecutive.{Consecutive, holds-parts, holds-made, low, consecutive}
+use Rattle.positions.proofs.Consecutive.{Consecutive, ofKeyAt-parts, ofKeyAt-made, low, consecutive}
 
 module _ {X : Type 0} (f : ℕ → X) where
   pub mem-tab : (n : ℕ) {x : X} → List·Memᴰ x (tab f n) → (i : ℕ) × (i < n) × (x ≡ f i)
@@ -100,23 +100,23 @@ count-tab p q f g (suc n) h = omega (arith, count-last p f n, count-last q g n, 
 
 module _ (a : Keys) (marks : ℕ → ℕ) where
   module _ (k p i : ℕ) where
-    row-holds : Holds a k p i → holds k p (rowOf a marks i) ≡ true
-    row-holds h = holds-made k (rowOf a marks i) p (h .keyed) (h .key) (h .position)
+    row-ofKeyAt : Holds a k p i → ofKeyAt k p (rowOf a marks i) ≡ true
+    row-ofKeyAt h = ofKeyAt-made k (rowOf a marks i) p (h .keyed) (h .key) (h .position)
 
-    holds-row : holds k p (rowOf a marks i) ≡ true → Holds a k p i
-    holds-row e = let u = holds-parts k (rowOf a marks i) p e in record { keyed = u .0; key = u .1; position = u .2 }
+    ofKeyAt-row : ofKeyAt k p (rowOf a marks i) ≡ true → Holds a k p i
+    ofKeyAt-row e = let u = ofKeyAt-parts k (rowOf a marks i) p e in record { keyed = u .0; key = u .1; position = u .2 }
 
   module _ (n : ℕ) where
-    ordered-next : Ordered a n → (k p : ℕ) → 0 < count (holds k (suc p)) (rowsOf a marks n) → 0 < count (holds k p) (rowsOf a marks n)
+    ordered-next : Ordered a n → (k p : ℕ) → 0 < count (ofKeyAt k (suc p)) (rowsOf a marks n) → 0 < count (ofKeyAt k p) (rowsOf a marks n)
     ordered-next o k p l =
-        let r = at-count (holds k (suc p)) (rowOf a marks) n l in
-        let s = o .next (r .0) (r .1) k p (holds-row k (suc p) (r .0) (r .2)) in
-        count-at (holds k p) (rowOf a marks) n (s .0) (s .1) (row-holds k p (s .0) (s .2))
+        let r = at-count (ofKeyAt k (suc p)) (rowOf a marks) n l in
+        let s = o .next (r .0) (r .1) k p (ofKeyAt-row k (suc p) (r .0) (r .2)) in
+        count-at (ofKeyAt k p) (rowOf a marks) n (s .0) (s .1) (row-ofKeyAt k p (s .0) (s .2))
 
     ordered-consecutive : Ordered a n → Consecutive (rowsOf a marks n)
     ordered-consecutive o =
         record {
-          once = λ k p. count-once (holds k p) (rowOf a marks) n (λ i j l m e g. o .new j m .once i k p l (holds-row k p i e) (holds-row k p j g));
+          once = λ k p. count-once (ofKeyAt k p) (rowOf a marks) n (λ i j l m e g. o .new j m .once i k p l (ofKeyAt-row k p i e) (ofKeyAt-row k p j g));
           next = ordered-next o;
           loose = λ r m e.
               let t = mem-tab (rowOf a marks) n m in
@@ -128,12 +128,12 @@ module _ (a : Keys) (marks : ℕ → ℕ) where
         record {
           new = λ j m.
               record {
-                once = λ i k p l h g. once-count (holds k p) (rowOf a marks) n i j (c .once k p) l m (row-holds k p i h) (row-holds k p j g);
+                once = λ i k p l h g. once-count (ofKeyAt k p) (rowOf a marks) n i j (c .once k p) l m (row-ofKeyAt k p i h) (row-ofKeyAt k p j g);
                 loose = c .loose (rowOf a marks j) (tab-mem (rowOf a marks) n j m);
               };
           next = λ j m k p h.
-              let r = at-count (holds k p) (rowOf a marks) n (c .next k p (count-at (holds k (suc p)) (rowOf a marks) n j m (row-holds k (suc p) j h))) in
-              (r .0, r .1, holds-row k p (r .0) (r .2));
+              let r = at-count (ofKeyAt k p) (rowOf a marks) n (c .next k p (count-at (ofKeyAt k (suc p)) (rowOf a marks) n j m (row-ofKeyAt k (suc p) j h))) in
+              (r .0, r .1, ofKeyAt-row k p (r .0) (r .2));
         }
 
     -- positions of rows, and by slot number
@@ -167,4 +167,4 @@ pub position-low : (a : Keys) (n k p j : ℕ) → Ordered a n → j < n → Hold
 position-low a n k p j o l h =
     let marks : ℕ → ℕ = λ i. 0 in
     let rs = rowsOf a marks n in
-    omega (arith, low rs (ordered-next a marks n o) k p (count-at (holds k p) (rowOf a marks) n j l (row-holds a marks k p j h)), count-length (hasKey k) rs, length-tab (rowOf a marks) n)
+    omega (arith, low rs (ordered-next a marks n o) k p (count-at (ofKeyAt k p) (rowOf a marks) n j l (row-ofKeyAt a marks k p j h)), count-length (ofKey k) rs, length-tab (rowOf a marks) n)

@@ -8,7 +8,8 @@ use lib.Dec.{T}
 use lib.Ieee.{Float, binary32, ofBits, fits}
 use lib.Ieee.Fits.{add-fits, mul-fits}
 use Rattle.pattern.specs.Binary32.{_⊕_, _⊗_}
-use Rattle.score.specs.Score.{byteSums, indexSums, rawSums, ofBlock, rawOfBlock, Stage, stage, stageScore, slotScore, judged}
+use Rattle.codes.specs.Stage.{Stage, stage}
+use Rattle.score.specs.Score.{byteSums, indexSums, rawSums, ofBlock, rawOfBlock, stageScore, slotScore, judged}
 
 module _ (w : ℕ) (centroids : List Float) (block : List ℕ) (query : List Float) where
   pub raw-four : w ≡ 4 → ofBlock byteSums 4 centroids block query ≡ rawOfBlock w centroids block query

@@ -9,6 +9,7 @@ use lib.Ieee.{Float, binary32, ofBits, isNan}
 use Rattle.pattern.specs.Binary32.{_⊕_, _⊗_, +0, sum}
 use Rattle.lists.specs.Lists.{zipWith}
 use Rattle.codes.specs.Packing.{bytesPerVector, unpacked}
+use Rattle.codes.specs.Stage.{Stage}
 use Rattle.score.specs.Lanes.{lanes, pairSums, bracketed}
 use Rattle.score.specs.declared.Scored.{Scored}
 use Rattle.score.specs.declared.Scored.the-variants.{Score, Refused}
@@ -62,15 +63,7 @@ rawOfBlock w = ofBlock (rawSums w) w
 
 -- ---- the score of a slot
 
--- a stage of a slot: its scale as a binary32 pattern, and its block. A slot of a residual index has two.
-pub record Stage : Type 0 where
-  pub scale : ℕ
-  pub block : List ℕ
-
-abbrev pub stage : (scale : ℕ) → (block : List ℕ) → Stage
-stage scale block = record { scale = scale; block = block }
-
--- the raw score times the scale
+-- of a stage: the raw score times the scale. A slot of a residual index has two stages.
 unfoldable pub stageScore : (w : ℕ) → (centroids query : List Float) → Stage → Float
 stageScore w centroids query s = rawOfBlock w centroids (s .block) query ⊗ ofBits binary32 (s .scale)
 

@@ -8,7 +8,8 @@ ghost use lib.Ieee.{nan};
 ghost use Rattle.pattern.specs.Binary32.{_⊕_, sum};
 ghost use Rattle.lists.specs.Lists.{tab};
 ghost use Rattle.score.specs.Lanes.{lanes, bracketed};
-ghost use Rattle.score.specs.Score.{byteSums, indexSums, blockProducts, byteTerms, fitting, ofBlock, rawOfBlock, stage, stageScore, slotScore, judged};
+ghost use Rattle.codes.specs.Stage.{stage};
+ghost use Rattle.score.specs.Score.{byteSums, indexSums, blockProducts, byteTerms, fitting, ofBlock, rawOfBlock, stageScore, slotScore, judged};
 ghost use Rattle.score.specs.Order.{orderNumber};
 
 // A score, or the number of the refusal.
