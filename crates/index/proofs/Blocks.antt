@@ -14,7 +14,7 @@ use Rattle.lists.proofs.Front.{over-front}
 use Rattle.codes.specs.Slots.{blockAt}
 use Rattle.index.specs.State.{joined}
 
-joined-append : (bs cs : List (List ℕ)) → joined (bs ++ cs) ≡ joined bs ++ joined cs
+pub joined-append : (bs cs : List (List ℕ)) → joined (bs ++ cs) ≡ joined bs ++ joined cs
 unfolding joined
 joined-append [] cs = refl
 joined-append (b ∷ bs) cs = rw (joined-append bs cs) (sym (append-assoc b (joined bs) (joined cs)))

@@ -8,3 +8,4 @@ pub mod Encoded
 pub mod Changes
 pub mod Kept
 pub mod Calls
+pub mod Places

@@ -96,14 +96,14 @@ secondOf s = stageOr (s .code .first) (s .code .second)
 
 module _ (h : Header) where
   -- what `Shaped` says of the second stage
-  plain-none : h .residual ≡ false → (s : Slot) → Shaped h (s .code) → s .code .second ≡ none
+  pub plain-none : h .residual ≡ false → (s : Slot) → Shaped h (s .code) → s .code .second ≡ none
   plain-none e s c = go (s .code .second) (c .second ∙ rw e)
     where
       go : (o : Option Stage) → blockLength o ≡ none → o ≡ none
       go none p = refl
       go (some g) p = absurd (let z : _≡_ {A = ℕ} 0 1 = cc in omega arith)
 
-  residual-some : h .residual ≡ true → (s : Slot) → Shaped h (s .code) → (s .code .second ≡ some (secondOf s)) × (length (secondOf s .block) ≡ blockSize h)
+  pub residual-some : h .residual ≡ true → (s : Slot) → Shaped h (s .code) → (s .code .second ≡ some (secondOf s)) × (length (secondOf s .block) ≡ blockSize h)
   residual-some e s c = go (s .code .second) (c .second ∙ rw e)
     where
       go : (o : Option Stage) → blockLength o ≡ some (blockSize h) → (o ≡ some (stageOr (s .code .first) o)) × (length (stageOr (s .code .first) o .block) ≡ blockSize h)

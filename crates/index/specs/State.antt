@@ -2,9 +2,9 @@
 use mathlib.Core.Bool.{Bool, true, false, cond}
 use mathlib.Core.List.{List, [], _∷_, _++_, map}
 use mathlib.Core.Option.{none, some}
-use Prim.Native.Nat.{ℕ, zero, suc, _/_, min}
-use lib.ListN.{length, getD}
-use Rattle.lists.specs.Lists.{tab, over}
+use Prim.Native.Nat.{ℕ, zero, suc, _*_, _/_, min}
+use lib.ListN.{length, getD, set}
+use Rattle.lists.specs.Lists.{tab, over, splice}
 use Rattle.lists.specs.Keep.{count}
 use Rattle.codes.specs.Slots.{blockAt}
 use Rattle.encode.specs.declared.Header.{Header}
@@ -147,4 +147,20 @@ overlay a ss =
       alive = over (map (λ s. aliveOf (s .mark)) ss) (a .alive);
       codes2 = over (blocksOf (seconds ss)) (a .codes2);
       scales2 = over (scalesOf (seconds ss)) (a .scales2);
+    }
+
+-- A slot in its places, all others kept. Slots written so one after the other make an overlay (law `overlay-more`).
+unfoldable pub putSlot : Header → Arrays → (i : ℕ) → Slot → Arrays
+putSlot h a i s =
+    let at = i * blockSize h in
+    let g = s .code .first in
+    record {
+      codes = splice at (g .block) (a .codes);
+      scales = set (a .scales) i (g .scale);
+      keys = set (a .keys) i (keyWord (s .mark));
+      keyed = set (a .keyed) i (hasKey (s .mark));
+      held = set (a .held) i (position (s .mark));
+      alive = set (a .alive) i (aliveOf (s .mark));
+      codes2 = elim (s .code .second) [ none ↦ a .codes2 | some e ↦ splice at (e .block) (a .codes2) ];
+      scales2 = elim (s .code .second) [ none ↦ a .scales2 | some e ↦ set (a .scales2) i (e .scale) ];
     }

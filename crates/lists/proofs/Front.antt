@@ -5,9 +5,9 @@ use mathlib.Core.List.{List, [], _∷_, _++_, map, map-append, map-id}
 use Prim.Native.Nat.{ℕ, zero, suc, _+_, _-_, _≤_, _<_}
 use native.Mathlib.Omega.{arith}
 use native.Mathlib.Decide.{decLt}
-use lib.ListN.{length, getD, take, drop, List·getD-append, take-append-drop}
-use lib.Seq.{ext-getD, getD-drop, getD-append-add, length-take-le}
-use Rattle.lists.specs.Lists.{tab, over}
+use lib.ListN.{length, getD, set, take, drop, length-append, List·getD-append, take-append-drop}
+use lib.Seq.{ext-getD, getD-drop, getD-append-add, length-take-le, take-at, drop-append-add, drop-drop, sets-eq, length-sets}
+use Rattle.lists.specs.Lists.{tab, over, splice}
 use Rattle.lists.specs.Keep.{bit, count, Each}
 use Rattle.lists.proofs.Laws.{length-tab, getD-tab, tab-getD, tab-ext, length-over}
 use Rattle.lists.proofs.Keep.{each-append}
@@ -43,6 +43,23 @@ module _ {ℓ} {A : Type ℓ} where
   pub over-front : (n : ℕ) (xs : List A) → n ≤ length xs → over (take n xs) xs ≡ xs
   unfolding over
   over-front n xs h = rw (length-take-le n xs h) (take-append-drop n xs)
+
+  -- ---- some places
+
+  pub splice-one : (i : ℕ) (y : A) (xs : List A) → i < length xs → splice i (y ∷ []) xs ≡ set xs i y
+  unfolding splice
+  splice-one i y xs h = sym (sets-eq (y ∷ []) xs i (omega arith))
+
+  pub length-splice : (i : ℕ) (ys xs : List A) → i + length ys ≤ length xs → length (splice i ys xs) ≡ length xs
+  unfolding splice
+  length-splice i ys xs h = ap length (sym (sets-eq ys xs i h)) ∙ length-sets xs i ys
+
+  -- more at the front: the places after what was written first
+  pub over-append : (ys zs xs : List A) → over (ys ++ zs) xs ≡ splice (length ys) zs (over ys xs)
+  unfolding over splice
+  over-append ys zs xs =
+      let rest : List A = drop (length ys) xs in
+      rw (length-append ys zs, take-at ys rest (length ys) refl, drop-append-add ys rest (length zs), drop-drop (length zs) (length ys) xs)
 
 module _ {ℓ ℓ′} {A : Type ℓ} {B : Type ℓ′} (g : A → B) where
   pub map-tab : (f : ℕ → A) (n : ℕ) → map g (tab f n) ≡ tab (λ i. g (f i)) n

@@ -1,7 +1,7 @@
 -- Lists that the kit's library has no name for.
-use Prim.Native.Nat.{ℕ, zero, suc}
+use Prim.Native.Nat.{ℕ, zero, suc, _+_}
 use mathlib.Core.List.{List, [], _∷_, _++_}
-use lib.ListN.{length, drop}
+use lib.ListN.{length, take, drop}
 
 -- f 0, f 1, .., f (n - 1)
 abbrev pub tab {ℓ} : {A : Type ℓ} → (ℕ → A) → ℕ → List A
@@ -17,3 +17,7 @@ zipWith f (x ∷ xs) (y ∷ ys) = f x y ∷ zipWith f xs ys
 -- ys over the first places of xs: the later places keep their contents
 unfoldable pub over {ℓ} : {A : Type ℓ} → List A → List A → List A
 over ys xs = ys ++ drop (length ys) xs
+
+-- ys over the places of xs from i on: the others keep their contents
+unfoldable pub splice {ℓ} : {A : Type ℓ} → (i : ℕ) → (ys xs : List A) → List A
+splice i ys xs = take i xs ++ ys ++ drop (i + length ys) xs
