@@ -15,14 +15,26 @@ ROWS = [
     ("rhdh.rs", "struct SignStream {", "pub struct SignStream {"),
     ("rhdh.rs", "    fn new(seed: u64) -> Self {", "    pub fn new(seed: u64) -> Self {"),
     ("rhdh.rs", "    fn next_sign(&mut self) -> f32 {", "    pub fn next_sign(&mut self) -> f32 {"),
-    # Fields that the oracle reads, and sets where no call leads there (spare bits, any scale, a residual index with fewer working dimensions).
+    # Fields that the oracle reads, and sets where no call leads there (spare bits, any scale, a residual index with fewer working dimensions,
+    # an index that a script's `set` and `field` describe).
     ("store.rs", "    pub(crate) codes: Vec<u8>,", "    pub codes: Vec<u8>,"),
     ("store.rs", "    pub(crate) scales: Vec<f32>,", "    pub scales: Vec<f32>,"),
     ("store.rs", "    pub(crate) residual: bool,", "    pub residual: bool,"),
     ("store.rs", "    pub(crate) codes2: Vec<u8>,", "    pub codes2: Vec<u8>,"),
     ("store.rs", "    pub(crate) scales2: Vec<f32>,", "    pub scales2: Vec<f32>,"),
+    ("store.rs", "    pub(crate) n: usize,", "    pub n: usize,"),
+    ("store.rs", "    keys: Vec<Option<u64>>,", "    pub keys: Vec<Option<u64>>,"),
+    ("store.rs", "    key_to_slot: HashMap<u64, usize>,", "    pub key_to_slot: HashMap<u64, usize>,"),
+    ("store.rs", "    key_to_slots: HashMap<u64, Vec<usize>>,", "    pub key_to_slots: HashMap<u64, Vec<usize>>,"),
+    ("store.rs", "    signature: Option<Vec<u8>>,", "    pub signature: Option<Vec<u8>>,"),
+    ("store.rs", "    alive: Vec<bool>,", "    pub alive: Vec<bool>,"),
+    ("store.rs", "    live: usize,", "    pub live: usize,"),
+    ("store.rs", "    pub(crate) bits: u8,", "    pub bits: u8,"),
     ("store.rs", "    rotated: Vec<f32>,", "    pub rotated: Vec<f32>,"),
     ("store.rs", "    rnorm: f32,", "    pub rnorm: f32,"),
+    # A call that may stop midway is made on a copy.
+    ("store.rs", "pub struct VecqIndex {", "#[derive(Clone)] pub struct VecqIndex {"),
+    ("rhdh.rs", "pub struct Rhdh {", "#[derive(Clone)] pub struct Rhdh {"),
 ]
 
 

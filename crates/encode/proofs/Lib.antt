@@ -2,7 +2,6 @@
 mod Filling
 mod Sums
 mod FloatTests
-mod Vectors
 mod Stages
 mod Whole
 pub mod Fit

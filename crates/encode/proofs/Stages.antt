@@ -1,87 +1,33 @@
--- Codes and scales of a rotated vector, from what the working functions ensure.
+-- Codes and scales of a residual index, from what the working functions ensure.
 use mathlib.Core.Path.{_≡_, refl, sym, ap, ap₂, subst, _∙_}
 use mathlib.Core.Bool.{Bool, true, false}
-use mathlib.Core.List.{List, [], _∷_, map, append-nil}
-use Prim.Native.Nat.{ℕ, zero, suc, _^_, _≤_, _<_}
-use native.Mathlib.Nat.{lt-of-le-of-lt}
+use mathlib.Core.List.{List}
+use Prim.Native.Nat.{ℕ, _^_, _≤_}
 use native.Mathlib.Omega.{arith}
 use borrow.Author.Tests.{le-leb, eq-eqb, ne-eqb}
 use lib.Dec.{T}
 use lib.IntN.{pos}
-use lib.ListN.{length, drop, getD, length-map}
-use lib.Seq.{drop-length}
-use lib.Pow.{pow-pos, pow-mono}
+use lib.ListN.{length}
 use lib.Ieee.{Float, binary32, ofBits, toBits, ofInt, inFloat, round}
-use Rattle.digits.specs.Digits.{Below}
 use Rattle.pattern.specs.Binary32.{_⊕_, _⊗_, _⊘_, whole, sumSquares, larger}
 use Rattle.sqrt.specs.Root.{SquareRoot}
-use Rattle.lists.specs.Lists.{over}
-use Rattle.lloyd.specs.Quantizer as Quantizer
-use Rattle.lloyd.specs.Quantizer.{quantized}
-use Rattle.lloyd.proofs.Quantized.{quantized-le}
+use Rattle.unit.specs.Unit.{norm, divided}
+use Rattle.unit.proofs.Filling.{length-divided}
 use Rattle.codes.specs.Packing.{packed}
-use Rattle.codes.specs.Writing.{written}
-use Rattle.codes.proofs.Tests.{Packable, written-yes}
-use Rattle.encode.specs.declared.Scales.{Scales}
-use Rattle.encode.specs.Encode.{norm, dot, divided, table, coded, decoded, dequantized, plainScale, plain, floor, differences, rest, rootMeanSquare, scaled, joinedNorm, firstScale, secondScale, residual}
 use Rattle.codes.specs.Stage.{stage}
-use Rattle.encode.specs.Coded.{stored}
-use Rattle.encode.specs.Calls.{fits, spareAfter, plainInto, Stages, stages, untouchedBoth, sparesAfter, storedBoth, residualInto}
-use Rattle.encode.proofs.Filling.{length-divided, length-differences, length-decoded}
-use Rattle.encode.proofs.Fit.{Fits}
-use Rattle.encode.proofs.Vectors.{norm-is}
+use Rattle.stage.specs.Coding.{table, coded, dequantized, stored}
+use Rattle.stage.specs.Calls.{fits, spareAfter}
+use Rattle.stage.proofs.Stages.{length-dequantized, one-is}
+use Rattle.encode.specs.declared.Scales.{Scales}
+use Rattle.encode.specs.Encode.{dot, floor, differences, rest, rootMeanSquare, scaled, joinedNorm, firstScale, secondScale, residual}
+use Rattle.encode.specs.Calls.{Stages, stages, untouchedBoth, sparesAfter, storedBoth, residualInto}
+use Rattle.encode.proofs.Filling.{length-differences}
 
--- ---- one stage
-
-pub length-coded : (b xs : List Float) → length (coded b xs) ≡ length xs
-unfolding coded
-length-coded b xs = length-map xs (quantized b)
-
--- a table of fewer boundaries than the width has codes gives codes of this width
-coded-below : (w : ℕ) (b : List Float) → length b < 2 ^ w → (xs : List Float) → Below (2 ^ w) (coded b xs)
-unfolding coded
-coded-below w b h [] i = pow-pos w
-coded-below w b h (x ∷ xs) zero = lt-of-le-of-lt (quantized-le b x) h
-coded-below w b h (x ∷ xs) (suc i) = coded-below w b h xs i
-
-module _ (w : ℕ) (b xs : List Float) (bytes : ℕ) (f : Fits w (length b) (length xs) bytes) where
-  pub codes-are : (codes next : List ℕ) → length codes ≡ length xs → next ≡ Quantizer.coded b xs codes → next ≡ coded b xs
-  unfolding Quantizer.coded over coded
-  codes-are codes next l e =
-      let most = pow-mono {i = w} {j = 8} (f .width .most) in
-      e
-      ∙ rw (le-leb (length b) 255 (omega (arith, f .table)), le-leb (length xs) (length codes) (omega arith), length-map xs, ← l, drop-length codes) (append-nil _)
-
-  pub block-is : (fresh : Bool) (block codes next : List ℕ) → length block ≡ bytes → codes ≡ coded b xs → next ≡ written w codes (spareAfter fresh w (length codes) block) block
-      → next ≡ packed w (coded b xs) (spareAfter fresh w (length xs) block)
-  block-is fresh block codes next l c e =
-      let n = ap length c ∙ length-coded b xs in
-      e
-      ∙ rw (n, c)
-      (written-yes (spareAfter fresh w (length xs) block) block (record { width = f .width; size = rw (length-coded b xs) (l ∙ f .size); fit = coded-below w b (f .table) xs }))
-
-pub values-are : (b c xs : List Float) (codes : List ℕ) (next : List Float) → codes ≡ coded b xs → next ≡ decoded c codes → next ≡ dequantized (table b c) xs
-values-are b c xs codes next e d = d ∙ ap (decoded c) e
-
-length-dequantized : (b c xs : List Float) → length (dequantized (table b c) xs) ≡ length xs
-length-dequantized b c xs = length-decoded c (coded b xs) ∙ length-coded b xs
-
--- ---- the scale of a plain index
-
-one-is : ofBits binary32 0x3F80_0000 ≡ whole 1
-unfolding ofBits ofInt round
-one-is = refl
+-- ---- the scales
 
 two-is : ofBits binary32 0x4000_0000 ≡ whole 2
 unfolding ofBits ofInt round
 two-is = refl
-
-pub plain-is : (b c xs : List Float) (w above : ℕ) (d : List Float) (s n : Float) (r : ℕ) (next : List ℕ) → d ≡ dequantized (table b c) xs → next ≡ packed w (coded b xs) above
-    → s ≡ sumSquares d → SquareRoot s n → r ≡ toBits binary32 (ofBits binary32 0x3F80_0000 ⊘ n) → stage r next ≡ stored w above (plain (table b c) xs)
-unfolding plain plainScale
-plain-is b c xs w above d s n r next values packs e root p = ap₂ stage (p ∙ rw (norm-is d s n e root, one-is, values)) packs
-
--- ---- the scales of a residual index
 
 pub few-enough : (n : ℕ) → n ≤ 4096 → T (inFloat binary32 (pos n))
 unfolding inFloat
@@ -113,22 +59,7 @@ module _ (d e : List Float) (rms n j : Float) (norms : n ≡ norm d) (joins : j 
   unfolding secondScale
   second-scale-is r p = p ∙ rw joins
 
--- ---- the whole call for a plain index
-
-module _ (b c xs : List Float) (w : ℕ) (fresh : Bool) (block : List ℕ) where
-  pub not-plain : fits w (length b) (length xs) (length block) ≡ false → stage 0 block ≡ plainInto (table b c) w fresh xs block
-  unfolding plainInto
-  not-plain e = rw e
-
-  pub plain-into : (r : ℕ) (next : List ℕ) → fits w (length b) (length xs) (length block) ≡ true → stage r next ≡ stored w (spareAfter fresh w (length xs) block) (plain (table b c) xs)
-      → stage r next ≡ plainInto (table b c) w fresh xs block
-  unfolding plainInto
-  plain-into r next e s = rw e s
-
 -- ---- the whole call for a residual index
-
-pub fits-same : (w boundaries codes block codes₁ block₁ : ℕ) → fits w boundaries codes block ≡ true → codes₁ ≡ codes → block₁ ≡ block → fits w boundaries codes₁ block₁ ≡ true
-fits-same w boundaries codes block codes₁ block₁ h e f = rw (e, f) h
 
 module _ (b c xs : List Float) (w : ℕ) (fresh : Bool) (block block2 : List ℕ) where
   -- d holds the centroids of the first codes, e₁ what is coded again, and e the centroids of the second codes

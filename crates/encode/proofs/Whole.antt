@@ -10,12 +10,16 @@ use lib.ListN.{length}
 use lib.Ieee.{Float}
 use Rattle.encode.specs.declared.Scales.{Scales}
 use Rattle.encode.specs.Header.{Header, padded}
-use Rattle.encode.specs.Encode.{table}
+use Rattle.unit.specs.Calls.{rotatedInto}
+use Rattle.unit.proofs.Rotatable.{is-rotatable}
+use Rattle.unit.proofs.Vectors.{rotated-whole, length-rotated}
+use Rattle.stage.specs.Coding.{table}
+use Rattle.stage.specs.Calls.{plainInto, untouched}
+use Rattle.stage.proofs.Fit.{is-fit}
 use Rattle.codes.specs.Stage.{Stage, stage}
 use Rattle.encode.specs.Coded.{rotatedOf, encoded}
-use Rattle.encode.specs.Calls.{rotatable, rotatedInto, fits, plainInto, Stages, untouched, untouchedBoth, sparesAfter, residualInto, encodable, placed, encodedInto}
-use Rattle.encode.proofs.Fit.{Rotatable, is-rotatable, is-fit, Encodable, encodable-of}
-use Rattle.encode.proofs.Vectors.{rotated-whole, length-rotated}
+use Rattle.encode.specs.Calls.{Stages, untouchedBoth, sparesAfter, residualInto, encodable, placed, encodedInto}
+use Rattle.encode.proofs.Fit.{Encodable, encodable-of}
 
 module _ (b c : List Float) (h : Header) (fresh : Bool) (v : List Float) (block block2 : List ℕ) where
   pub not-encoded : encodable h (length b) (length v) (length block) (length block2) ≡ false → untouchedBoth block block2 ≡ encodedInto (table b c) h fresh v block block2

@@ -2,61 +2,18 @@
 use mathlib.Core.Bool.{Bool, not, cond, _&&_, _||_}
 use mathlib.Core.List.{List}
 use mathlib.Core.Option.{none, some}
-use Prim.Native.Nat.{ℕ, _^_}
-use lib.Dec.{leb, ltb, eqb}
+use Prim.Native.Nat.{ℕ}
+use lib.Dec.{eqb}
 use lib.ListN.{length}
 use lib.Ieee.{Float}
-use Rattle.lists.specs.Lists.{over}
-use Rattle.pattern.specs.Binary32.{+0}
-use Rattle.rhdh.specs.Padded.{paddedDim}
-use Rattle.codes.specs.Packing.{bytesPerVector, spare}
-use Rattle.codes.specs.Writing.{isWidth}
+use Rattle.unit.specs.Calls.{rotatable}
+use Rattle.codes.specs.Stage.{Stage, stage}
+use Rattle.stage.specs.Coding.{Table, stored}
+use Rattle.stage.specs.Calls.{fits, spareAfter, untouched}
 use Rattle.encode.specs.declared.Scales.{Scales}
 use Rattle.encode.specs.Header.{Header, padded}
-use Rattle.encode.specs.Encode.{Table, Codings, rotatedBy, rnorm, prepared, plain, residual}
-use Rattle.codes.specs.Stage.{Stage, stage}
-use Rattle.encode.specs.Coded.{Code, Spare, stored, encoded}
-
--- ---- rotation
-
--- working_dim is from 1 to 4,096, the vector has so many entries, and the rotated one has its places
-unfoldable pub rotatable : (working entries places : ℕ) → Bool
-rotatable working entries places = leb 1 working && (leb working 4096 && (leb working entries && leb (paddedDim working) places))
-
--- the rotated vector in the first places of `out`
-unfoldable pub rotatedInto : (working seed : ℕ) → (v out : List Float) → List Float
-rotatedInto working seed v out = cond (rotatable working (length v) (length out)) (over (rotatedBy working seed v) out) out
-
--- a prepared query in the first places of `out`, and rnorm
-pub record Prepared : Type 0 where
-  pub rnorm : Float
-  pub out : List Float
-
-abbrev pub query : (rnorm : Float) → (out : List Float) → Prepared
-query rnorm out = record { rnorm = rnorm; out = out }
-
-unfoldable pub preparedInto : (working seed : ℕ) → (q out : List Float) → Prepared
-preparedInto working seed q out =
-    let xs = rotatedBy working seed q in
-    cond (rotatable working (length q) (length out)) (query (rnorm xs) (over (prepared xs) out)) (query +0 out)
-
--- ---- codes
-
--- The width is one of 1 to 8 bits, the table has no code past the width, there are at most 4,096 codes, and the block has just their bytes.
-unfoldable pub fits : (w boundaries codes block : ℕ) → Bool
-fits w boundaries codes block = isWidth w && (ltb boundaries (2 ^ w) && (leb codes 4096 && eqb block (bytesPerVector w codes)))
-
--- the spare bits that a block of p codes has after an append, and after an overwrite
-unfoldable pub spareAfter : (fresh : Bool) → (w p : ℕ) → (block : List ℕ) → ℕ
-spareAfter fresh w p block = cond fresh 0 (spare w p block)
-
--- a block that is left as it is
-abbrev pub untouched : (block : List ℕ) → Stage
-untouched block = stage 0 block
-
-unfoldable pub plainInto : Table → (w : ℕ) → (fresh : Bool) → (rotated : List Float) → (block : List ℕ) → Stage
-plainInto t w fresh xs block =
-    cond (fits w (length (t .boundaries)) (length xs) (length block)) (stored w (spareAfter fresh w (length xs) block) (plain t xs)) (untouched block)
+use Rattle.encode.specs.Encode.{Codings, residual}
+use Rattle.encode.specs.Coded.{Code, Spare, encoded}
 
 -- ---- codes of a residual index
 

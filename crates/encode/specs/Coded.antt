@@ -4,10 +4,12 @@ use mathlib.Core.List.{List}
 use mathlib.Core.Option.{Option, none, some}
 use Prim.Native.Nat.{ℕ}
 use lib.Ieee.{Float}
-use Rattle.codes.specs.Packing.{packed, spare}
-use Rattle.codes.specs.Stage.{Stage, stage}
+use Rattle.unit.specs.Unit.{vectorFault, rotatedBy}
+use Rattle.codes.specs.Packing.{spare}
+use Rattle.codes.specs.Stage.{Stage}
+use Rattle.stage.specs.Coding.{Table, plain, stored}
 use Rattle.encode.specs.Header.{Header, padded}
-use Rattle.encode.specs.Encode.{Table, Coding, vectorFault, rotatedBy, plain, residual}
+use Rattle.encode.specs.Encode.{residual}
 
 pub record Code : Type 0 where
   pub first : Stage
@@ -38,10 +40,6 @@ spareIn h g = spare (h .width) (padded h) (g .block)
 
 abbrev pub spareOf : Header → Code → Spare
 spareOf h c = record { first = spareIn h (c .first); second = elim (c .second) [ none ↦ 0 | some g ↦ spareIn h g ] }
-
--- a coding in a block of w bits a code, with these spare bits above
-abbrev pub stored : (w above : ℕ) → Coding → Stage
-stored w above g = stage (g .scale) (packed w (g .codes) above)
 
 unfoldable pub encoded : Table → Header → (above : Spare) → List Float → Code
 encoded t h above v =

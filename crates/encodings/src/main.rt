@@ -22,11 +22,7 @@ ghost use Prim.Native.Nat.{_≤_, _<_};
 ghost use lib.ListN.{length};
 use encode::Header;
 use encode::Scales;
-use lines::Next;
-use lines::Span;
 use score::Scored;
-use text::Number;
-use text::Run;
 
 fn main() {
     let mut buf = input();
@@ -52,87 +48,29 @@ fn bytes() -> [u8; 4096] {
     [0; 4096]
 }
 
-// What is left to hand out of the buffer, and whether the input has ended.
-struct State {
-    unread: Span,
-    ended: bool,
-}
-
-// Nothing says that the input ends, so the turns are counted down from a number that no run uses up.
+// Answers line after line.
 fn run(buf: &mut [u8], out: &mut [u8]) {
-    let mut unread = Span { from: 0, to: 0 };
-    let mut turns = u64::MAX;
-    while 0 < turns {
-        let t = turn(buf, out, unread);
-        if t.ended {
-            return;
-        }
-        unread = t.unread;
-        turns -= 1;
+    let mut cursor = lines::next_line(buf, lines::start());
+    while 0 < cursor.left {
+        let n = answer(lines::line(buf, cursor), cursor.long, out);
+        text::print_line(out, n);
+        cursor = lines::next_line(buf, cursor);
     }
 }
 
-// One line, answered.
-fn turn(buf: &mut [u8], out: &mut [u8], unread: Span) -> State {
-    match lines::next_line(buf, unread) {
-        Next::Line(line, rest) => {
-            let from = line.from;
-            let to = line.to;
-            let n = answer(&buf[from..to], out);
-            print(out, n);
-            State {
-                unread: rest,
-                ended: false,
-            }
-        }
-        Next::Long(rest) => {
-            let n = unreadable(out);
-            print(out, n);
-            State {
-                unread: rest,
-                ended: false,
-            }
-        }
-        Next::End => State {
-            unread: unread,
-            ended: true,
-        },
+// Puts the answer to a line into out, and answers its length. A line too long can't be read.
+fn answer(line: &[u8], long: bool, out: &mut [u8]) -> usize {
+    if long {
+        return text::put_unreadable(out);
     }
-}
-
-// Writes the first n bytes of out, and a newline.
-fn print(out: &mut [u8], n: usize) {
-    let end = text::put_byte(out, n, b'\n');
-    io::write_all(1, &out[0..end]);
-}
-
-fn unreadable(out: &mut [u8]) -> usize {
-    text::put_byte(out, 0, b'?')
-}
-
-// Puts the answer to a line into out, and answers its length.
-fn answer(line: &[u8], out: &mut [u8]) -> usize {
-    if line.len() == 0 {
-        return 0;
-    }
-    if line[0] == b'#' {
+    if text::is_silent(line) {
         return 0;
     }
     answer_command(line, command(text::field(line, 0)), out)
 }
 
-// The number of a command word: its place in the list.
 fn command(word: &[u8]) -> usize {
-    let words = b"encode over prepare score score2 order";
-    let n = text::field_count(words);
-    let mut i = 0;
-    while i < n {
-        if check::same(word, text::field(words, i)) {
-            return i;
-        }
-        i += 1;
-    }
-    n
+    text::word_number(b"encode over prepare score score2 order", word)
 }
 
 fn answer_command(line: &[u8], c: usize, out: &mut [u8]) -> usize {
@@ -143,7 +81,7 @@ fn answer_command(line: &[u8], c: usize, out: &mut [u8]) -> usize {
         3 => answer_score(line, out),
         4 => answer_score2(line, out),
         5 => answer_order(line, out),
-        _ => unreadable(out),
+        _ => text::put_unreadable(out),
     }
 }
 
@@ -158,7 +96,7 @@ fn answer_encode(line: &[u8], out: &mut [u8]) -> usize {
     let x = header_at(line, 7);
     let n = block_length(x.header);
     if !x.ok {
-        return unreadable(out);
+        return text::put_unreadable(out);
     }
     let mut block = bytes();
     let mut block2 = bytes();
@@ -188,12 +126,12 @@ fn answer_over(line: &[u8], out: &mut [u8]) -> usize {
     let x = header_at(line, 9);
     let mut block = bytes();
     let mut block2 = bytes();
-    let a = bytes_at(line, 6, &mut block);
-    let b = bytes_at(line, 7, &mut block2);
+    let a = text::bytes_at(line, 6, &mut block);
+    let b = text::bytes_at(line, 7, &mut block2);
     let n = a.length;
     let n2 = b.length;
     if !(x.ok && a.ok && b.ok) {
-        return unreadable(out);
+        return text::put_unreadable(out);
     }
     answer_blocks(
         line,
@@ -217,12 +155,12 @@ fn answer_blocks(
     out: &mut [u8],
 ) -> usize {
     let mut v = floats();
-    let x = vector_at(line, i, &mut v);
+    let x = text::vector_at(line, i, &mut v);
     let n = x.length;
     if x.ok {
         return put_encoding(out, header, fresh, &v[0..n], block, block2);
     }
-    unreadable(out)
+    text::put_unreadable(out)
 }
 
 fn put_encoding(
@@ -233,7 +171,7 @@ fn put_encoding(
     block: &mut [u8],
     block2: &mut [u8],
 ) -> usize {
-    let fault = encode::vector_fault(header.dim, header.working, v);
+    let fault = unit::vector_fault(header.dim, header.working, v);
     if fault != 0 {
         return put_refused(out, fault);
     }
@@ -273,26 +211,9 @@ fn put_slot(out: &mut [u8], residual: bool, s: Scales, block: &[u8], block2: &[u
 }
 
 fn put_stage(out: &mut [u8], at: usize, block: &[u8], scale: u32) -> usize {
-    let next = put_run(out, at, block);
+    let next = text::put_run(out, at, block);
     let after = text::put_byte(out, next, b' ');
     text::put_hex(out, after, scale as u64, 8)
-}
-
-fn put_run(out: &mut [u8], at: usize, bytes: &[u8]) -> usize {
-    if bytes.len() == 0 {
-        return text::put_byte(out, at, b'-');
-    }
-    let mut next = at;
-    let mut i = 0;
-    while i < bytes.len() {
-        next = put_two_digits(out, next, bytes[i]);
-        i += 1;
-    }
-    next
-}
-
-fn put_two_digits(out: &mut [u8], at: usize, byte: u8) -> usize {
-    text::put_hex(out, at, byte as u64, 2)
 }
 
 // ---- queries
@@ -302,7 +223,7 @@ fn answer_prepare(line: &[u8], out: &mut [u8]) -> usize {
     let x = query_at(line, 5, 1, 4, &mut q);
     let n = x.length;
     if !x.ok {
-        return unreadable(out);
+        return text::put_unreadable(out);
     }
     if x.fault != 0 {
         return put_refused(out, x.fault);
@@ -312,13 +233,8 @@ fn answer_prepare(line: &[u8], out: &mut [u8]) -> usize {
 
 fn put_query(out: &mut [u8], rnorm: f32, q: &[f32]) -> usize {
     let at = put_float(out, 0, rnorm);
-    let mut next = text::put_byte(out, at, b' ');
-    let mut i = 0;
-    while i < q.len() {
-        next = put_float(out, next, q[i]);
-        i += 1;
-    }
-    next
+    let next = text::put_byte(out, at, b' ');
+    text::put_vector(out, next, q)
 }
 
 fn put_float(out: &mut [u8], at: usize, x: f32) -> usize {
@@ -351,7 +267,7 @@ fn query_at(line: &[u8], count: usize, from: usize, i: usize, q: &mut [f32]) -> 
 {
     let s = space_at(line, count, from);
     let mut v = floats();
-    let x = vector_at(line, i, &mut v);
+    let x = text::vector_at(line, i, &mut v);
     let n = x.length;
     if !(s.ok && x.ok) {
         return no_query(false, 0);
@@ -362,7 +278,7 @@ fn query_at(line: &[u8], count: usize, from: usize, i: usize, q: &mut [f32]) -> 
 fn prepare(s: Space, v: &[f32], q: &mut [f32]) -> Query
     ensures { λ r. ⌜ r .length ≤ length (now (q .entry)) ⌝ }
 {
-    let fault = encode::vector_fault(s.dim, s.working, v);
+    let fault = unit::vector_fault(s.dim, s.working, v);
     let padded = rhdh::padded_dim(s.working);
     if fault != 0 {
         return no_query(true, fault);
@@ -373,7 +289,7 @@ fn prepare(s: Space, v: &[f32], q: &mut [f32]) -> Query
     Query {
         ok: true,
         fault: 0,
-        rnorm: encode::prepare(s.working, s.seed, v, q),
+        rnorm: unit::prepare(s.working, s.seed, v, q),
         length: padded,
     }
 }
@@ -389,7 +305,7 @@ fn answer_score(line: &[u8], out: &mut [u8]) -> usize {
     let m = x.length;
     let n = a.length;
     if !(w.ok && x.ok && a.ok) {
-        return unreadable(out);
+        return text::put_unreadable(out);
     }
     if x.fault != 0 {
         return put_refused(out, x.fault);
@@ -412,7 +328,7 @@ fn answer_score2(line: &[u8], out: &mut [u8]) -> usize {
     let x = query_at(line, 10, 2, 9, &mut q);
     let m = x.length;
     if !(w.ok && x.ok) {
-        return unreadable(out);
+        return text::put_unreadable(out);
     }
     answer_stages(line, w.width, x.fault, &q[0..m], out)
 }
@@ -426,7 +342,7 @@ fn answer_stages(line: &[u8], width: u8, fault: u8, q: &[f32], out: &mut [u8]) -
     let n = a.length;
     let n2 = b.length;
     if !(a.ok && b.ok) {
-        return unreadable(out);
+        return text::put_unreadable(out);
     }
     if fault != 0 {
         return put_refused(out, fault);
@@ -463,9 +379,9 @@ fn put_score(out: &mut [u8], x: f32) -> usize {
 }
 
 fn answer_order(line: &[u8], out: &mut [u8]) -> usize {
-    let p = number_at(line, 1, 0xFFFF_FFFF);
+    let p = text::number_at(line, 1, 0xFFFF_FFFF);
     if text::field_count(line) != 2 {
-        return unreadable(out);
+        return text::put_unreadable(out);
     }
     if p.ok {
         return text::put_hex(
@@ -475,15 +391,10 @@ fn answer_order(line: &[u8], out: &mut [u8]) -> usize {
             1,
         );
     }
-    unreadable(out)
+    text::put_unreadable(out)
 }
 
 // ---- the fields of a line
-
-struct Arg {
-    ok: bool,
-    value: u64,
-}
 
 struct Width {
     ok: bool,
@@ -510,12 +421,6 @@ struct Stage {
     length: usize,
 }
 
-// The elements of a field: how many they are.
-struct Part {
-    ok: bool,
-    length: usize,
-}
-
 // How many codes a width has; 1 where it is no width, so that its tables have parts.
 fn levels(width: u8) -> usize
     ensures { λ r. ⌜ (0 < r) × (r ≤ 64) ⌝ }
@@ -530,7 +435,7 @@ fn levels(width: u8) -> usize
 // The header of a line of count fields, from field 1 on.
 fn header_at(line: &[u8], count: usize) -> Heading {
     let w = width_at(line, 1);
-    let r = number_at(line, 2, 1);
+    let r = text::number_at(line, 2, 1);
     let s = space_at(line, count, 3);
     Heading {
         ok: w.ok && r.ok && s.ok,
@@ -545,7 +450,7 @@ fn header_at(line: &[u8], count: usize) -> Heading {
 }
 
 fn width_at(line: &[u8], i: usize) -> Width {
-    let w = number_at(line, i, 6);
+    let w = text::number_at(line, i, 6);
     Width {
         ok: w.ok && 4 <= w.value,
         width: w.value as u8,
@@ -556,9 +461,9 @@ fn width_at(line: &[u8], i: usize) -> Width {
 fn space_at(line: &[u8], count: usize, i: usize) -> Space
     requires { ⌜ i ≤ 3 ⌝ }
 {
-    let dim = number_at(line, i, 4096);
-    let working = number_at(line, i + 1, dim.value);
-    let seed = number_at(line, i + 2, u64::MAX);
+    let dim = text::number_at(line, i, 4096);
+    let working = text::number_at(line, i + 1, dim.value);
+    let seed = text::number_at(line, i + 2, u64::MAX);
     Space {
         ok: text::field_count(line) == count && dim.ok && working.ok && seed.ok,
         dim: dim.value as usize,
@@ -572,71 +477,11 @@ fn stage_at(line: &[u8], i: usize, block: &mut [u8]) -> Stage
     requires { ⌜ i ≤ 7 ⌝ }
     ensures { λ r. ⌜ r .length ≤ length (now (block .entry)) ⌝ }
 {
-    let p = number_at(line, i, 0xFFFF_FFFF);
-    let x = bytes_at(line, i + 1, block);
+    let p = text::number_at(line, i, 0xFFFF_FFFF);
+    let x = text::bytes_at(line, i + 1, block);
     Stage {
         ok: p.ok && x.ok,
         scale: p.value as u32,
         length: x.length,
-    }
-}
-
-// Field i as a number, at most `most`.
-fn number_at(line: &[u8], i: usize, most: u64) -> Arg
-    ensures { λ r. ⌜ r .value ≤ most ⌝ }
-{
-    match text::read_number(text::field(line, i)) {
-        Number::Value(n) => at_most(n, most),
-        Number::NoNumber => no_arg(),
-    }
-}
-
-fn at_most(n: u64, most: u64) -> Arg
-    ensures { λ r. ⌜ r .value ≤ most ⌝ }
-{
-    if n <= most {
-        return Arg { ok: true, value: n };
-    }
-    no_arg()
-}
-
-fn no_arg() -> Arg
-    ensures { λ r. ⌜ r .value ≡ 0 ⌝ }
-{
-    Arg {
-        ok: false,
-        value: 0,
-    }
-}
-
-// Field i as a vector, read into the first entries of v.
-fn vector_at(line: &[u8], i: usize, v: &mut [f32]) -> Part
-    ensures { λ r. ⌜ r .length ≤ length (now (v .entry)) ⌝ }
-{
-    match text::read_vector(text::field(line, i), v) {
-        Run::Length(n) => Part {
-            ok: true,
-            length: n,
-        },
-        Run::NoRun => Part {
-            ok: false,
-            length: 0,
-        },
-    }
-}
-
-// Field i as bytes, read into the first places of b.
-fn bytes_at(line: &[u8], i: usize, b: &mut [u8]) -> Part
-    ensures { λ r. ⌜ r .length ≤ length (now (b .entry)) ⌝ }
-{
-    match text::read_bytes(text::field(line, i), b) {
-        Run::Length(n) => Part {
-            ok: true,
-            length: n,
-        },
-        Run::NoRun => Part {
-            ok: false,
-            length: 0,
-        },
     }
 }

@@ -13,9 +13,11 @@ use Rattle.codes.proofs.Packing.{length-packed}
 use Rattle.rhdh.proofs.Applied.{rotated-length}
 use Rattle.encode.specs.declared.Header.{Header}
 use Rattle.encode.specs.Header.{padded, blockSize}
-use Rattle.encode.specs.Encode.{Table, Coding, Codings, rotatedBy, coded, decoded, codesOf, dequantized, divided, differences, scaled, plain, rest, residual}
+use Rattle.unit.specs.Unit.{rotatedBy, divided}
+use Rattle.stage.specs.Coding.{Table, Coding, coded, decoded, codesOf, dequantized, plain, stored}
+use Rattle.encode.specs.Encode.{Codings, differences, scaled, rest, residual}
 use Rattle.encode.specs.Coded as Coded
-use Rattle.encode.specs.Coded.{Code, Spare, rotatedOf, stored}
+use Rattle.encode.specs.Coded.{Code, Spare, rotatedOf}
 use Rattle.index.specs.Codec.{encoded, tableOf}
 use Rattle.index.specs.Sound.{blockLength, Shaped}
 

@@ -11,7 +11,8 @@ use Rattle.lloyd.specs.Quantizer.{quantized}
 use Rattle.codes.specs.Packing.{unpacked}
 use Rattle.encode.specs.declared.Header.{Header}
 use Rattle.encode.specs.Header.{padded}
-use Rattle.encode.specs.Encode.{Table, rnorm, prepared}
+use Rattle.unit.specs.Unit.{rnorm, prepared}
+use Rattle.stage.specs.Coding.{Table}
 use Rattle.encode.specs.Coded as Coded
 use Rattle.encode.specs.Coded.{Code, Spare, rotatedOf}
 use Rattle.score.specs.Score.{slotScore}

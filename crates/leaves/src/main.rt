@@ -17,14 +17,9 @@
 // For a half that is finite `narrows` has six answers: at the pattern p that it reads as, at p - 1 and p + 1, and at the pattern m
 // of the value midway to the next half of its sign, m - 1 and m + 1. (Past the largest finite half, 65,504, the next is taken to be
 // 65,536.) For an infinity it has those at p, p - 1 and p + 1, for a NaN the one at p. Patterns are counted modulo 2^32.
-ghost use Prim.Native.Nat.{_≤_, _<_};
-ghost use lib.ListN.{length};
-use lines::Next;
-use lines::Span;
+ghost use Prim.Native.Nat.{_<_};
 use rhdh::Rhdh;
 use rhdh::SignStream;
-use text::Number;
-use text::Run;
 
 fn main() {
     let mut buf = input();
@@ -46,97 +41,43 @@ fn entries() -> [f32; 4096] {
     [0.0; 4096]
 }
 
-// What is left to hand out of the buffer, and whether the input has ended.
-struct State {
-    unread: Span,
-    ended: bool,
-}
-
-// Nothing says that the input ends, so the turns are counted down from a number that no run uses up.
+// Answers line after line.
 fn run(buf: &mut [u8], out: &mut [u8]) {
-    let mut unread = Span { from: 0, to: 0 };
-    let mut turns = u64::MAX;
-    while 0 < turns {
-        let t = turn(buf, out, unread);
-        if t.ended {
-            return;
-        }
-        unread = t.unread;
-        turns -= 1;
+    let mut cursor = lines::next_line(buf, lines::start());
+    while 0 < cursor.left {
+        let n = answer(lines::line(buf, cursor), cursor.long, out);
+        text::print_line(out, n);
+        cursor = lines::next_line(buf, cursor);
     }
 }
 
-// One line, answered.
-fn turn(buf: &mut [u8], out: &mut [u8], unread: Span) -> State {
-    match lines::next_line(buf, unread) {
-        Next::Line(line, rest) => {
-            let from = line.from;
-            let to = line.to;
-            let n = answer(&buf[from..to], out);
-            print(out, n);
-            State {
-                unread: rest,
-                ended: false,
-            }
-        }
-        Next::Long(rest) => {
-            let n = unreadable(out);
-            print(out, n);
-            State {
-                unread: rest,
-                ended: false,
-            }
-        }
-        Next::End => State {
-            unread: unread,
-            ended: true,
-        },
+// Puts the answer to a line into out, and answers its length. A line too long can't be read.
+fn answer(line: &[u8], long: bool, out: &mut [u8]) -> usize {
+    if long {
+        return text::put_unreadable(out);
     }
-}
-
-// Writes the first n bytes of out, and a newline.
-fn print(out: &mut [u8], n: usize) {
-    let end = text::put_byte(out, n, b'\n');
-    io::write_all(1, &out[0..end]);
-}
-
-fn unreadable(out: &mut [u8]) -> usize {
-    text::put_byte(out, 0, b'?')
-}
-
-// Puts the answer to a line into out, and answers its length.
-fn answer(line: &[u8], out: &mut [u8]) -> usize {
-    if line.len() == 0 {
-        return 0;
-    }
-    if line[0] == b'#' {
+    if text::is_silent(line) {
         return 0;
     }
     let c = command(text::field(line, 0));
-    let x = numbers_of(line, c);
+    put_answer(out, line, c, numbers_of(line, c))
+}
+
+fn command(word: &[u8]) -> usize {
+    let words =
+        b"half narrow sqrt padded levels quantize dequantize signs halves narrows fwht apply";
+    text::word_number(words, word)
+}
+
+fn put_answer(out: &mut [u8], line: &[u8], c: usize, x: Numbers) -> usize {
     if !x.ok {
-        return unreadable(out);
+        return text::put_unreadable(out);
     }
     if c < 7 {
         let r = reply_to(c, x.a, x.b);
         return text::put_hex(out, 0, r.value, r.width);
     }
     put_run(out, line, c, x)
-}
-
-// The number of a command word: its place in the list.
-fn command(word: &[u8]) -> usize {
-    let words =
-        b"half narrow sqrt padded levels quantize dequantize signs halves narrows fwht apply";
-    let n = text::field_count(words);
-    let mut i = 0;
-    while i < n {
-        if check::same(word, text::field(words, i)) {
-            return i;
-        }
-        i += 1;
-    }
-    n
 }
 
 // ---- the numbers of a line
@@ -178,7 +119,7 @@ fn no_numbers() -> Numbers {
 
 // The one number of the line, at most `most`.
 fn one(line: &[u8], most: u64) -> Numbers {
-    let a = number_at(line, 1, most);
+    let a = text::number_at(line, 1, most);
     Numbers {
         ok: a.ok && text::field_count(line) == 2,
         a: a.value,
@@ -191,8 +132,8 @@ fn two(line: &[u8], count: usize, most_a: u64, most_b: u64) -> Numbers {
     if text::field_count(line) != count {
         return no_numbers();
     }
-    let a = number_at(line, 1, most_a);
-    let b = number_at(line, 2, most_b);
+    let a = text::number_at(line, 1, most_a);
+    let b = text::number_at(line, 2, most_b);
     Numbers {
         ok: a.ok && b.ok,
         a: a.value,
@@ -210,25 +151,6 @@ fn range(line: &[u8]) -> Numbers {
         return no_numbers();
     }
     x
-}
-
-struct Value {
-    ok: bool,
-    value: u64,
-}
-
-// Field i as a number, at most `most`.
-fn number_at(line: &[u8], i: usize, most: u64) -> Value {
-    match text::read_number(text::field(line, i)) {
-        Number::Value(n) => Value {
-            ok: n <= most,
-            value: n,
-        },
-        Number::NoNumber => Value {
-            ok: false,
-            value: 0,
-        },
-    }
 }
 
 // ---- commands that answer with one number
@@ -364,10 +286,10 @@ fn midpoint(h: u16) -> u32 {
 // The vector in field i: rotated by a size and a seed, or only transformed.
 fn put_transformed(out: &mut [u8], line: &[u8], i: usize, rotated: bool, x: Numbers) -> usize {
     let mut v = entries();
-    let y = vector_at(line, i, &mut v);
+    let y = text::vector_at(line, i, &mut v);
     let n = y.length;
     if !y.ok {
-        return unreadable(out);
+        return text::put_unreadable(out);
     }
     if rotated {
         return put_rotated(out, Rhdh::new(x.a as usize, x.b), &v[0..n]);
@@ -377,13 +299,13 @@ fn put_transformed(out: &mut [u8], line: &[u8], i: usize, rotated: bool, x: Numb
 
 fn put_fwht(out: &mut [u8], v: &mut [f32]) -> usize {
     rhdh::fwht(v);
-    put_vector(out, v)
+    text::put_vector(out, 0, v)
 }
 
 fn put_rotated(out: &mut [u8], rotation: Rhdh, v: &[f32]) -> usize {
     let padded = rotation.padded;
     if 4096 < padded {
-        return unreadable(out);
+        return text::put_unreadable(out);
     }
     let mut w = entries();
     put_applied(out, rotation, v, &mut w[0..padded])
@@ -391,40 +313,5 @@ fn put_rotated(out: &mut [u8], rotation: Rhdh, v: &[f32]) -> usize {
 
 fn put_applied(out: &mut [u8], rotation: Rhdh, v: &[f32], w: &mut [f32]) -> usize {
     rotation.apply(v, w);
-    put_vector(out, w)
-}
-
-// The vector, at the front of out.
-fn put_vector(out: &mut [u8], v: &[f32]) -> usize {
-    if v.len() == 0 {
-        return text::put_byte(out, 0, b'-');
-    }
-    let mut at = 0;
-    let mut i = 0;
-    while i < v.len() {
-        at = text::put_hex(out, at, pattern::to_bits(v[i]) as u64, 8);
-        i += 1;
-    }
-    at
-}
-
-struct Vector {
-    ok: bool,
-    length: usize,
-}
-
-// Field i as a vector, read into the first entries of v.
-fn vector_at(line: &[u8], i: usize, v: &mut [f32]) -> Vector
-    ensures { λ r. ⌜ r .length ≤ length (now (v .entry)) ⌝ }
-{
-    match text::read_vector(text::field(line, i), v) {
-        Run::Length(n) => Vector {
-            ok: true,
-            length: n,
-        },
-        Run::NoRun => Vector {
-            ok: false,
-            length: 0,
-        },
-    }
+    text::put_vector(out, 0, w)
 }

@@ -1,2 +1,3 @@
--- Laws of newlines that several proofs cite.
+-- Laws of newlines and cursors that several proofs cite.
+mod Cursors
 mod Newlines

@@ -1,11 +1,12 @@
 -- What is handed out of the buffer. What standard input holds no contract can say.
 use mathlib.Core.Path.{_≡_}
+use mathlib.Core.Bool.{true, false, _&&_, cond}
 use mathlib.Core.List.{List}
-use Prim.Native.Nat.{ℕ, _≤_, _<_}
-use lib.ListN.{length, getD}
+use Prim.Native.Nat.{ℕ, _-_, _≤_, _<_}
+use lib.Dec.{leb}
+use lib.ListN.{length, take, drop, getD}
 use Rattle.lines.specs.declared.Span.{Span}
-use Rattle.lines.specs.declared.Next.{Next}
-use Rattle.lines.specs.declared.Next.the-variants.{Line, Long, End}
+use Rattle.lines.specs.declared.Cursor.{Cursor}
 
 -- the part lies within n bytes
 pub record Within (n : ℕ) (s : Span) : Type 0 where
@@ -16,8 +17,29 @@ pub record Within (n : ℕ) (s : Span) : Type 0 where
 pub record NoNewline (buf : List ℕ) (a b : ℕ) : Type 0 where
   pub clean : (k : ℕ) → a ≤ k → k < b → getD buf k 0 ≡ 10 → ⊥
 
--- each part that is handed out lies within the buffer, and a line has no newline in it
-abbrev pub Handed : List ℕ → Next → Type 0
-Handed buf (Line s rest) = Within (length buf) s × Within (length buf) rest × NoNewline buf (s .from) (s .to)
-Handed buf (Long rest) = Within (length buf) rest
-Handed buf End = Unit {0}
+abbrev pub empty : Span
+empty = record { from = 0; to = 0 }
+
+-- the part where it lies within n bytes, else an empty one
+unfoldable pub clipped : ℕ → Span → Span
+clipped n s = cond (leb (s .to) n && leb (s .from) (s .to)) s empty
+
+-- the bytes of a part
+abbrev pub partOf : List ℕ → Span → List ℕ
+partOf buf s = take (s .to - s .from) (drop (s .from) buf)
+
+-- nothing is handed out and nothing is unread, as before the first line and, with a count of 0, at the end
+abbrev pub atRest : ℕ → Cursor
+atRest left = record { line = empty; long = false; unread = empty; left = left }
+
+-- a line too long, after which the part `rest` is unread
+abbrev pub passedOver : Span → ℕ → Cursor
+passedOver rest left = record { line = empty; long = true; unread = rest; left = left }
+
+-- each part lies within the buffer, the line has no newline in it and is empty where it was passed over, and the count went down from `before`
+pub record Handed (buf : List ℕ) (before : ℕ) (c : Cursor) : Type 0 where
+  pub line : Within (length buf) (c .line)
+  pub clean : NoNewline buf (c .line .from) (c .line .to)
+  pub passed : c .long ≡ true → c .line ≡ empty
+  pub unread : Within (length buf) (c .unread)
+  pub fewer : c .left ≤ before - 1

@@ -1,9 +1,15 @@
-// The lines of standard input, through a buffer that the caller lends.
+// The lines of standard input, one after the other, through a buffer that the caller lends:
+//
+//     let mut cursor = lines::next_line(buf, lines::start());
+//     while 0 < cursor.left {
+//         .. lines::line(buf, cursor) ..
+//         cursor = lines::next_line(buf, cursor);
+//     }
 use libc::STDIN_FILENO;
 ghost use mathlib.Core.Path.{_≡_};
 ghost use Prim.Native.Nat.{_+_, _≤_, _<_};
 ghost use lib.ListN.{length, take};
-ghost use Rattle.lines.specs.Lines.{Within, NoNewline, Handed};
+ghost use Rattle.lines.specs.Lines.{Within, NoNewline, clipped, partOf, passedOver, atRest, Handed};
 
 // A part of the buffer: the bytes from `from` up to `to`.
 pub struct Span {
@@ -11,29 +17,51 @@ pub struct Span {
     pub to: usize,
 }
 
-// What comes next on standard input, each time but at the end with the part of the buffer that was read and not handed out.
-pub enum Next {
-    // A line, without its newline.
-    Line(Span, Span),
-    // A line that the buffer cannot hold with its newline: it was passed over.
-    Long(Span),
-    End,
+// Where the reading of the lines stands.
+pub struct Cursor {
+    // The line that is handed out, without its newline.
+    pub line: Span,
+    // Whether the line is one that the buffer can't hold with its newline: it was passed over, and the part is empty.
+    pub long: bool,
+    // What was read and not handed out.
+    pub unread: Span,
+    // 0 where the input has ended. Nothing says that it ends, so lines and reads are counted down from a number that no run uses up.
+    pub left: u64,
 }
 
-// The next line, after what was read and not handed out, which at first is an empty part. A last line without its newline counts, unless it is empty.
-// Nothing says that the input ends, so the reads are counted down from a number that no run uses up.
-pub fn next_line(buf: &mut [u8], unread: Span) -> Next
-    ensures { λ r. ⌜ Handed (now (buf .exit)) r ⌝ }
+// Before the first line: the count is the largest there is.
+pub fn start() -> Cursor
+    ensures { λ r. ⌜ r ≡ atRest 18446744073709551615 ⌝ }
 {
-    let mut left = within(unread, buf.len());
+    at_rest(u64::MAX)
+}
+
+// The bytes of the line that is handed out.
+pub fn line(buf: &[u8], cursor: Cursor) -> &[u8]
+    ensures { λ r. ⌜ now r ≡ partOf (now (buf .entry)) (clipped (length (now (buf .entry))) (cursor .line)) ⌝ }
+{
+    let whole = cursor.line;
+    let part = within(whole, buf.len());
+    let from = part.from;
+    let to = part.to;
+    &buf[from..to]
+}
+
+// The next line. A last line without its newline counts, unless it is empty.
+pub fn next_line(buf: &mut [u8], before: Cursor) -> Cursor
+    ensures { λ r. ⌜ Handed (now (buf .exit)) (before .left) r ⌝ }
+{
+    let unread = before.unread;
+    let mut part = within(unread, buf.len());
     let mut long = false;
-    let mut reads = u64::MAX;
-    while 0 < reads {
-        let from = left.from;
-        let to = left.to;
+    let mut left = before.left;
+    while 0 < left {
+        left -= 1;
+        let from = part.from;
+        let to = part.to;
         let end = newline(buf, from, to);
         if end < to {
-            return found(buf, from, end, to, long);
+            return found(buf, from, end, to, long, left);
         }
         if to - from == buf.len() {
             long = true;
@@ -41,19 +69,19 @@ pub fn next_line(buf: &mut [u8], unread: Span) -> Next
         let kept = keep(buf, from, to);
         let got = read_more(buf, kept);
         if got == 0 {
-            return last(buf, kept, long);
+            return last(buf, kept, long, left);
         }
-        left = Span {
+        part = Span {
             from: 0,
             to: kept + got,
         };
-        reads -= 1;
     }
-    Next::End
+    at_rest(0)
 }
 
 // The part itself, or none of the buffer where the part is not within it.
 fn within(part: Span, len: usize) -> Span
+    ensures { λ r. ⌜ r ≡ clipped len part ⌝ }
     ensures { λ r. ⌜ Within len r ⌝ }
 {
     let none = Span { from: 0, to: 0 };
@@ -83,44 +111,74 @@ fn newline(buf: &[u8], from: usize, to: usize) -> usize
 }
 
 // The line that ends at a newline.
-fn found(buf: &[u8], from: usize, end: usize, to: usize, long: bool) -> Next
+fn found(buf: &[u8], from: usize, end: usize, to: usize, long: bool, left: u64) -> Cursor
     requires { ⌜ (from ≤ end) × (end < to) × (to ≤ length (now buf)) ⌝ }
     requires { ⌜ NoNewline (now buf) from end ⌝ }
-    ensures { λ r. ⌜ Handed (now (buf .entry)) r ⌝ }
+    ensures { λ r. ⌜ Handed (now (buf .entry)) (left + 1) r ⌝ }
 {
     let rest = Span {
         from: end + 1,
         to: to,
     };
     if long {
-        return Next::Long(rest);
+        return passed_over(rest, left);
     }
-    Next::Line(
-        Span {
+    Cursor {
+        line: Span {
             from: from,
             to: end,
         },
-        rest,
-    )
+        long: false,
+        unread: rest,
+        left: left,
+    }
 }
 
 // What is there when the input has ended.
-fn last(buf: &[u8], kept: usize, long: bool) -> Next
+fn last(buf: &[u8], kept: usize, long: bool, left: u64) -> Cursor
     requires { ⌜ kept ≤ length (now buf) ⌝ }
     requires { ⌜ NoNewline (now buf) 0 kept ⌝ }
-    ensures { λ r. ⌜ Handed (now (buf .entry)) r ⌝ }
+    ensures { λ r. ⌜ Handed (now (buf .entry)) (left + 1) r ⌝ }
 {
     let none = Span {
         from: kept,
         to: kept,
     };
     if long {
-        return Next::Long(none);
+        return passed_over(none, left);
     }
     if kept == 0 {
-        return Next::End;
+        return at_rest(0);
     }
-    Next::Line(Span { from: 0, to: kept }, none)
+    Cursor {
+        line: Span { from: 0, to: kept },
+        long: false,
+        unread: none,
+        left: left,
+    }
+}
+
+fn passed_over(rest: Span, left: u64) -> Cursor
+    ensures { λ r. ⌜ r ≡ passedOver rest left ⌝ }
+{
+    Cursor {
+        line: Span { from: 0, to: 0 },
+        long: true,
+        unread: rest,
+        left: left,
+    }
+}
+
+// Nothing is handed out, and nothing is unread.
+fn at_rest(left: u64) -> Cursor
+    ensures { λ r. ⌜ r ≡ atRest left ⌝ }
+{
+    Cursor {
+        line: Span { from: 0, to: 0 },
+        long: false,
+        unread: Span { from: 0, to: 0 },
+        left: left,
+    }
 }
 
 // Moves a part to the front of the buffer, and answers its length. Where the part is the whole buffer, it is dropped: no line that long

@@ -1,6 +1,7 @@
 -- Laws that the proofs of several functions cite.
+mod Filling
 mod Split
 mod Places
 pub mod RoundTrip
-pub mod Runs
+mod Runs
 mod Value

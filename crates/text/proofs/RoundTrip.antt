@@ -1,17 +1,17 @@
--- What is printed is read back: a number in the fewest hexadecimal digits that hold it is a field that reads as this number.
+-- What is printed is read back: a number in the fewest hexadecimal digits that hold it is a field that reads as this number,
+-- where that is at most what may be read.
 use mathlib.Core.Path.{_≡_, refl, sym, ap, _∙_}
 use mathlib.Core.Bool.{Bool, true, false, cond}
 use mathlib.Core.List.{List, [], _∷_, _++_}
 use Prim.Native.Nat.{ℕ, zero, suc, _+_, _-_, _*_, _/_, _%_, _^_, _≤_, _<_}
-use native.Mathlib.Nat.{div-add-mod', mod-lt, div-lt-iff-lt-mul, le-div-iff-mul-le, pow-suc, pow-le-pow-right, le-trans}
+use native.Mathlib.Nat.{div-add-mod', mod-lt, div-lt-iff-lt-mul, le-div-iff-mul-le, pow-suc, pow-le-pow-right, le-trans, lt-of-le-of-lt}
 use native.Mathlib.Numerals.{sub-one}
 use native.Mathlib.Omega.{arith}
 use borrow.Author.Tests.{le-leb, lt-leb, lt-ltb, ltb-true, ltb-false, ne-eqb}
 use lib.Dec.{ltb, lit<}
 use lib.ListN.{length, getD, length-append, List·getD-append}
 use Rattle.io.specs.Digits.{glyph, digits, Fewest}
-use Rattle.text.specs.declared.reading.Number.the-variants.{Value}
-use Rattle.text.specs.Reading.{digitOf, areDigits, valueAfter, valueOf, leadsWithZero, isNumber, numberOf}
+use Rattle.text.specs.Reading.{digitOf, areDigits, valueAfter, valueOf, leadsWithZero, isNumber, number, numberOf}
 use Rattle.text.proofs.Value.{first-digit}
 
 -- ---- one digit
@@ -93,10 +93,9 @@ sixteen k n f h = go (ltb 16 k) refl
         let big : 16 ^ 16 ≤ n = le-trans (pow-le-pow-right {n = 16} (lit< tt) {i = 16} {j = k - 1} (omega arith)) (f .2 (omega arith)) in
         absurd (omega arith)
 
-pub read-back : (k n : ℕ) → Fewest 16 1 n k → n < 2 ^ 64 → numberOf (digits 16 k n) ≡ Value n
+pub read-back : (k n most : ℕ) → Fewest 16 1 n k → n ≤ most → most < 2 ^ 64 → numberOf most (digits 16 k n) ≡ number n
 unfolding numberOf isNumber
-read-back k n f h =
+read-back k n most f h m =
     let long = digits-length k n in
     simp
-    (lt-ltb 0 (length (digits 16 k n)) (omega (arith, f .0)), le-leb (length (digits 16 k n)) 16 (omega (arith, sixteen k n f h)), no-leading-zero k n f, are-digits k n)
-    (ap Value (digits-value k n (f .1)))
+    (lt-ltb 0 (length (digits 16 k n)) (omega (arith, f .0)), le-leb (length (digits 16 k n)) 16 (omega (arith, sixteen k n f (lt-of-le-of-lt h m))), no-leading-zero k n f, are-digits k n, digits-value k n (f .1), le-leb n most h)

@@ -1,15 +1,16 @@
 -- What it takes for a field to be a number, a vector or a run of bytes.
-use mathlib.Core.Path.{_≡_, refl}
-use mathlib.Core.Bool.{Bool, true, false, _&&_, not}
+use mathlib.Core.Path.{_≡_, refl, ap, _∙_}
+use mathlib.Core.Bool.{Bool, true, false, _&&_, not, cond}
 use mathlib.Core.List.{List}
-use Prim.Native.Nat.{ℕ, _*_, _/_, _%_, _≤_, _<_}
-use native.Mathlib.Nat.{mul-comm, div-mul-le-self}
+use Prim.Native.Nat.{ℕ, _+_, _*_, _/_, _%_, _≤_, _<_, zero-le}
+use native.Mathlib.Nat.{mul-comm, mul-add, mul-one, mul-le-mul-left, div-mul-le-self}
 use native.Mathlib.Omega.{arith}
 use borrow.Author.Tests.{leb-true}
 use lib.Dec.{ltb, leb, eqb}
 use lib.ListN.{length}
-use Rattle.text.specs.declared.reading.Run.the-variants.{Length}
-use Rattle.text.specs.Reading.{areDigits, leadsWithZero, isNumber, isDash, isRun, runOf}
+use Rattle.lists.specs.Lists.{over}
+use Rattle.text.specs.declared.reading.Run.{Run}
+use Rattle.text.specs.Reading.{areDigits, leadsWithZero, isNumber, isDash, isRun, run, noRun, runOf, IsRun}
 use Rattle.text.proofs.Value.{both}
 
 pub number-is : (f : List ℕ) → isNumber f ≡ true → (areDigits f ≡ true) × (length f ≤ 16)
@@ -19,29 +20,39 @@ number-is f e =
     let e₂ = both (leb (length f) 16) (not (leadsWithZero f) && areDigits f) e₁ in
     (both (not (leadsWithZero f)) (areDigits f) (e₂ .1) .1, leb-true (length f) 16 (e₂ .0))
 
--- a run of n elements of w digits: there is room for them, and where there are any the field has all their digits
-pub record IsRun (w room : ℕ) (f : List ℕ) (n : ℕ) : Type 0 where
-  pub fits : n ≤ room
-  pub digits : 0 < n → areDigits f ≡ true
-  pub whole : 0 < n → w * n ≤ length f
-
-pub run-is : (w room : ℕ) (f : List ℕ) (n : ℕ) → runOf w room f ≡ Length n → IsRun w room f n
+pub run-is : (w room : ℕ) (f : List ℕ) → IsRun w room f (runOf w room f .length)
 unfolding runOf isRun
-run-is w room f n e = go (isDash f) (isRun w room f) refl refl
+run-is w room f = go (isDash f) (isRun w room f) refl
   where
-    none : n ≡ 0 → IsRun w room f n
-    none z = record { fits = omega arith; digits = λ h. absurd (omega arith); whole = λ h. absurd (omega arith) }
+    none : IsRun w room f 0
+    none = record { fits = zero-le; digits = λ h. absurd (omega arith); whole = λ h. absurd (omega arith) }
 
-    some : isRun w room f ≡ true → length f / w ≡ n → IsRun w room f n
-    some h q =
+    some : isRun w room f ≡ true → IsRun w room f (length f / w)
+    some h =
         let h₁ = both (ltb 0 (length f)) (eqb (length f % w) 0 && (leb (length f / w) room && areDigits f)) h .1 in
         let h₂ = both (eqb (length f % w) 0) (leb (length f / w) room && areDigits f) h₁ .1 in
         let h₃ = both (leb (length f / w) room) (areDigits f) h₂ in
-        let room-for : length f / w ≤ room = leb-true (length f / w) room (h₃ .0) in
-        let most : w * (length f / w) ≤ length f = rw mul-comm (div-mul-le-self (length f) w) in
-        record { fits = omega arith; digits = λ _. h₃ .1; whole = λ _. rw q at most }
+        record {
+          fits = leb-true (length f / w) room (h₃ .0);
+          digits = λ _. h₃ .1;
+          whole = λ _. rw mul-comm (div-mul-le-self (length f) w);
+        }
 
-    go : (d r : Bool) → isDash f ≡ d → isRun w room f ≡ r → IsRun w room f n
-    go true r d h = none cc
-    go false true d h = some h cc
-    go false false d h = absurd (let z : _≡_ {A = ℕ} 0 1 = cc in omega arith)
+    go : (d r : Bool) → isRun w room f ≡ r → IsRun w room f (cond d (run 0) (cond r (run (length f / w)) noRun) .length)
+    go true r h = none
+    go false true h = some h
+    go false false h = none
+
+-- element i of a run: all its digits are there
+pub run-element : (w room : ℕ) (f : List ℕ) (n i : ℕ) → IsRun w room f n → w ≤ 16 → i < n → (areDigits f ≡ true) × (w ≤ 16) × (w * i + w ≤ length f)
+run-element w room f n i r small h =
+    let some : 0 < n = omega arith in
+    let upto : w * (i + 1) ≤ w * n = mul-le-mul-left w (omega arith) in
+    (r .digits some, small, omega (arith, r .whole some, mul-add w i 1, mul-one w))
+
+-- what is read of a field, where f is that field
+pub read-at : {A : Type 0} (elements : List ℕ → ℕ → List A) (w room : ℕ) (f f′ : List ℕ) (r : Run) (d d′ : List A) → f ≡ f′
+    → (r ≡ runOf w room f) × IsRun w room f (r .length) → d′ ≡ over (elements f (r .length)) d
+    → (r ≡ runOf w room f′) × ((d′ ≡ over (elements f′ (r .length)) d) × (r .length ≤ room))
+read-at elements w room f f′ r d d′ e run read =
+    (run .0 ∙ ap (runOf w room) e, (read ∙ ap (λ (g : List ℕ). over (elements g (r .length)) d) e, run .1 .fits))

@@ -1,9 +1,10 @@
 -- The fields of what is left of a line, from one byte to the next.
-use mathlib.Core.Path.{_≡_, refl, ap, _∙_}
+use mathlib.Core.Path.{_≡_, refl, ap, subst, _∙_}
+use mathlib.Core.Logic.{⊎-elim}
 use mathlib.Core.Bool.{Bool, true, false}
 use mathlib.Core.List.{List, [], _∷_, _++_, append-nil}
 use Prim.Native.Nat.{ℕ, zero, suc, _+_, _-_, _<_}
-use native.Mathlib.Nat.{zero-lt-suc}
+use native.Mathlib.Nat.{zero-lt-suc, eq-or-lt-of-le, le-of-suc-le-suc}
 use native.Mathlib.Numerals.{add-one, sub-one}
 use native.Mathlib.Omega.{arith}
 use borrow.Author.Tests.{eq-eqb, ne-eqb}
@@ -81,3 +82,18 @@ module _ (l : List ℕ) (i : ℕ) (h : i < length l) where
       let first : getD (fields (drop i l)) 0 [] ≡ getD l i 0 ∷ getD (fields (drop (i + 1) l)) 0 [] =
       ap (λ (fs : List (List ℕ)). getD fs 0 []) (at-other n) ∙ withByte-first (getD l i 0) (fields (drop (i + 1) l)) in
       rw (first, add-one, take-suc l i 0, append-snoc)
+
+-- ---- the first place of a word
+
+pub record NoneBefore (words : List (List ℕ)) (word : List ℕ) (n : ℕ) : Type 0 where
+  pub clean : (k : ℕ) → k < n → getD words k [] ≡ word → ⊥
+
+pub none-before : (words : List (List ℕ)) (word : List ℕ) → NoneBefore words word 0
+none-before words word = record { clean = λ k h. absurd (omega arith) }
+
+pub one-more-before : (words : List (List ℕ)) (word : List ℕ) (n : ℕ) → NoneBefore words word n → (getD words n [] ≡ word → ⊥) → NoneBefore words word (n + 1)
+one-more-before words word n b here =
+    record {
+      clean = λ k h e.
+          ⊎-elim (λ q. here (subst (λ (j : ℕ). getD words j [] ≡ word) q e)) (λ below. b .clean k below e) (eq-or-lt-of-le (le-of-suc-le-suc (rw add-one at h)));
+    }

@@ -2,17 +2,15 @@
 -- (`0` is zero)"; "A number has at most 16 digits"; "A vector is the binary32 patterns of its entries, eight digits each, run together; bytes are two
 -- digits each, run together; an empty vector or an empty run of bytes is `-`".
 use mathlib.Core.Path.{_≡_, refl}
-use Prim.Native.Nat.{ℕ, _+_, _-_, _*_, _/_, _%_}
-use mathlib.Core.Bool.{Bool, true, _&&_, not, cond}
+use Prim.Native.Nat.{ℕ, _+_, _-_, _*_, _/_, _%_, _≤_, _<_}
+use mathlib.Core.Bool.{Bool, true, false, _&&_, not, cond}
 use mathlib.Core.List.{List, [], _∷_}
 use lib.Dec.{eqb, ltb, leb}
 use lib.Ieee.{Float, binary32, ofBits}
 use lib.ListN.{length, take, drop, getD}
-use Rattle.lists.specs.Lists.{tab, over}
+use Rattle.lists.specs.Lists.{tab}
 use Rattle.text.specs.declared.reading.Number.{Number}
-use Rattle.text.specs.declared.reading.Number.the-variants.{Value, NoNumber}
 use Rattle.text.specs.declared.reading.Run.{Run}
-use Rattle.text.specs.declared.reading.Run.the-variants.{Length, NoRun}
 
 -- ---- digits
 
@@ -45,8 +43,18 @@ leadsWithZero f = leb 2 (length f) && eqb (getD f 0 0) 48
 unfoldable pub isNumber : List ℕ → Bool
 isNumber f = ltb 0 (length f) && (leb (length f) 16 && (not (leadsWithZero f) && areDigits f))
 
-unfoldable pub numberOf : List ℕ → Number
-numberOf f = cond (isNumber f) (Value (valueOf f)) NoNumber
+abbrev pub number : ℕ → Number
+number n = record { ok = true; value = n }
+
+abbrev pub noNumber : Number
+noNumber = record { ok = false; value = 0 }
+
+abbrev pub atMost : ℕ → ℕ → Number
+atMost most n = cond (leb n most) (number n) noNumber
+
+-- the number that the field is, where it is one of at most `most`
+unfoldable pub numberOf : ℕ → List ℕ → Number
+numberOf most f = cond (isNumber f) (atMost most (valueOf f)) noNumber
 
 -- ---- vectors and bytes: elements of w digits each
 
@@ -58,9 +66,21 @@ isDash f = eqb (length f) 1 && eqb (getD f 0 0) 45
 unfoldable pub isRun : ℕ → ℕ → List ℕ → Bool
 isRun w room f = ltb 0 (length f) && (eqb (length f % w) 0 && (leb (length f / w) room && areDigits f))
 
--- how many elements the field has
+abbrev pub run : ℕ → Run
+run n = record { ok = true; length = n }
+
+abbrev pub noRun : Run
+noRun = record { ok = false; length = 0 }
+
+-- how many elements the field has, where it is a run of them
 unfoldable pub runOf : ℕ → ℕ → List ℕ → Run
-runOf w room f = cond (isDash f) (Length 0) (cond (isRun w room f) (Length (length f / w)) NoRun)
+runOf w room f = cond (isDash f) (run 0) (cond (isRun w room f) (run (length f / w)) noRun)
+
+-- a run of n elements of w digits: there is room for them, and where there are any the field has all their digits
+pub record IsRun (w room : ℕ) (f : List ℕ) (n : ℕ) : Type 0 where
+  pub fits : n ≤ room
+  pub digits : 0 < n → areDigits f ≡ true
+  pub whole : 0 < n → w * n ≤ length f
 
 -- element i
 abbrev pub elementOf : ℕ → List ℕ → ℕ → ℕ
@@ -73,19 +93,14 @@ floatsOf f n = tab (λ i. ofBits binary32 (elementOf 8 f i)) n
 abbrev pub bytesOf : List ℕ → ℕ → List ℕ
 bytesOf f n = tab (elementOf 2 f) n
 
--- what a lent array holds after a field was read into it: the elements over its first places, or what it held where the field is no run
-abbrev pub readInto : {A : Type 0} → Run → (ℕ → List A) → List A → List A
-readInto (Length n) elements d = over (elements n) d
-readInto NoRun elements d = d
-
 -- ---- worked by hand
 
--- `1f` is 31, `0` is 0, and `01` is no number
-number-worked : (numberOf (49 ∷ 102 ∷ []) ≡ Value 31) × (numberOf (48 ∷ []) ≡ Value 0) × (numberOf (48 ∷ 49 ∷ []) ≡ NoNumber)
+-- `1f` is 31, which is not at most 30; `0` is 0, and `01` is no number
+number-worked : (numberOf 31 (49 ∷ 102 ∷ []) ≡ number 31) × (numberOf 30 (49 ∷ 102 ∷ []) ≡ noNumber) × (numberOf 0 (48 ∷ []) ≡ number 0) × (numberOf 9 (48 ∷ 49 ∷ []) ≡ noNumber)
 unfolding numberOf isNumber leadsWithZero digitOf
-number-worked = (refl, refl, refl)
+number-worked = (refl, refl, refl, refl)
 
 -- `0aff` is the two bytes 10 and 255, `-` is none, and `0af` is no run of bytes
-bytes-worked : (runOf 2 9 (48 ∷ 97 ∷ 102 ∷ 102 ∷ []) ≡ Length 2) × (bytesOf (48 ∷ 97 ∷ 102 ∷ 102 ∷ []) 2 ≡ 10 ∷ 255 ∷ []) × (runOf 2 9 (45 ∷ []) ≡ Length 0) × (runOf 2 9 (48 ∷ 97 ∷ 102 ∷ []) ≡ NoRun)
+bytes-worked : (runOf 2 9 (48 ∷ 97 ∷ 102 ∷ 102 ∷ []) ≡ run 2) × (bytesOf (48 ∷ 97 ∷ 102 ∷ 102 ∷ []) 2 ≡ 10 ∷ 255 ∷ []) × (runOf 2 9 (45 ∷ []) ≡ run 0) × (runOf 2 9 (48 ∷ 97 ∷ 102 ∷ []) ≡ noRun)
 unfolding runOf isRun isDash digitOf
 bytes-worked = (refl, refl, refl, refl)

@@ -3,7 +3,32 @@ ghost use mathlib.Core.Path.{_≡_};
 ghost use mathlib.Core.List.{[]};
 ghost use Prim.Native.Nat.{_≤_};
 ghost use lib.ListN.{length, take, drop, getD};
-ghost use Rattle.text.specs.Fields.{fields};
+ghost use Rattle.text.specs.Fields.{fields, fieldAt, isSilent, FirstPlace};
+
+// Whether the line is answered with an empty line: an empty line, and one that begins with `#`.
+pub fn is_silent(line: &[u8]) -> bool
+    ensures { λ r. ⌜ r ≡ isSilent (now (line .entry)) ⌝ }
+{
+    if line.len() == 0 {
+        return true;
+    }
+    line[0] == b'#'
+}
+
+// The number of a command word: its place in a list of words parted by single blanks; how many there are where it is none of them.
+pub fn word_number(words: &[u8], word: &[u8]) -> usize
+    ensures { λ r. ⌜ FirstPlace (fields (now (words .entry))) (now (word .entry)) r ⌝ }
+{
+    let n = field_count(words);
+    let mut place = 0;
+    while place < n {
+        if check::same(field(words, place), word) {
+            return place;
+        }
+        place += 1;
+    }
+    n
+}
 
 // How many fields the line has: one more than its blanks.
 pub fn field_count(line: &[u8]) -> usize
@@ -22,7 +47,7 @@ pub fn field_count(line: &[u8]) -> usize
 
 // Field i of the line, counted from 0: empty where the line has no such field.
 pub fn field(line: &[u8], i: usize) -> &[u8]
-    ensures { λ r. ⌜ now r ≡ getD (fields (now (line .entry))) i [] ⌝ }
+    ensures { λ r. ⌜ now r ≡ fieldAt (now (line .entry)) i ⌝ }
 {
     let from = start(line, i);
     let rest = &line[from..];

@@ -4,51 +4,81 @@ ghost use mathlib.Core.Bool.{true};
 ghost use Prim.Native.Nat.{_+_, _*_, _^_, _≤_, _<_};
 ghost use lib.ListN.{length};
 ghost use Rattle.lists.specs.Lists.{over};
-ghost use Rattle.text.specs.Reading.{digitOf, areDigits, valueOf, leadsWithZero, isNumber, numberOf, isDash, isRun, runOf, elementOf, floatsOf, bytesOf, readInto};
+ghost use Rattle.text.specs.Fields.{fieldAt};
+ghost use Rattle.text.specs.Reading.{digitOf, areDigits, valueOf, leadsWithZero, isNumber, noNumber, atMost, numberOf, isDash, isRun, run, runOf, IsRun, elementOf, floatsOf, bytesOf};
+use crate::field;
 
-pub enum Number {
-    Value(u64),
-    NoNumber,
+// A number of a line: whether it can be read, and its value; 0 where it can't.
+pub struct Number {
+    pub ok: bool,
+    pub value: u64,
 }
 
-// How many elements a field has.
-pub enum Run {
-    Length(usize),
-    NoRun,
+// A run of elements in a line: whether it can be read, and how many there are; 0 where it can't.
+pub struct Run {
+    pub ok: bool,
+    pub length: usize,
 }
 
-// The number that a field is: 1 to 16 digits, the first of several not 0.
-pub fn read_number(field: &[u8]) -> Number
-    ensures { λ r. ⌜ r ≡ numberOf (now (field .entry)) ⌝ }
+// Field i as a number: 1 to 16 digits, the first of several not 0, of a value of at most `most`.
+pub fn number_at(line: &[u8], i: usize, most: u64) -> Number
+    ensures number { λ r. ⌜ r ≡ numberOf most (fieldAt (now (line .entry)) i) ⌝ }
+    ensures bound { λ r. ⌜ r .value ≤ most ⌝ }
+{
+    read_number(field(line, i), most)
+}
+
+// Field i as a vector, read into the first places of out. Where the field is no vector, or has more entries than out, nothing is read.
+pub fn vector_at(line: &[u8], i: usize, out: &mut [f32]) -> Run
+    ensures run { λ r. ⌜ r ≡ runOf 8 (length (now (out .entry))) (fieldAt (now (line .entry)) i) ⌝ }
+    ensures read { λ r. ⌜ now (out .exit) ≡ over (floatsOf (fieldAt (now (line .entry)) i) (r .length)) (now (out .entry)) ⌝ }
+    ensures fits { λ r. ⌜ r .length ≤ length (now (out .entry)) ⌝ }
+{
+    let f = field(line, i);
+    let run = run_of(f, 8, out.len());
+    fill_floats(f, run.length, out);
+    run
+}
+
+// Field i as bytes, read into the first places of out. Where the field is no run of bytes, or has more than out, nothing is read.
+pub fn bytes_at(line: &[u8], i: usize, out: &mut [u8]) -> Run
+    ensures run { λ r. ⌜ r ≡ runOf 2 (length (now (out .entry))) (fieldAt (now (line .entry)) i) ⌝ }
+    ensures read { λ r. ⌜ now (out .exit) ≡ over (bytesOf (fieldAt (now (line .entry)) i) (r .length)) (now (out .entry)) ⌝ }
+    ensures fits { λ r. ⌜ r .length ≤ length (now (out .entry)) ⌝ }
+{
+    let f = field(line, i);
+    let run = run_of(f, 2, out.len());
+    fill_bytes(f, run.length, out);
+    run
+}
+
+fn read_number(field: &[u8], most: u64) -> Number
+    ensures { λ r. ⌜ r ≡ numberOf most (now (field .entry)) ⌝ }
+    ensures { λ r. ⌜ r .value ≤ most ⌝ }
 {
     if is_number(field) {
-        return Number::Value(value(field));
+        return at_most(value(field), most);
     }
-    Number::NoNumber
+    no_number()
 }
 
-// Reads a vector into the first places of out. Where the field is no vector, or has more entries than out, it reads nothing.
-pub fn read_vector(field: &[u8], out: &mut [f32]) -> Run
-    ensures length { λ r. ⌜ r ≡ runOf 8 (length (now (out .entry))) (now (field .entry)) ⌝ }
-    ensures read { λ r. ⌜ now (out .exit) ≡ readInto r (floatsOf (now (field .entry))) (now (out .entry)) ⌝ }
+fn at_most(n: u64, most: u64) -> Number
+    ensures { λ r. ⌜ r ≡ atMost most n ⌝ }
+    ensures { λ r. ⌜ r .value ≤ most ⌝ }
 {
-    let run = run_of(field, 8, out.len());
-    if let Run::Length(n) = run {
-        fill_floats(field, n, out);
+    if n <= most {
+        return Number { ok: true, value: n };
     }
-    run
+    no_number()
 }
 
-// Reads bytes into the first places of out. Where the field is no run of bytes, or has more than out, it reads nothing.
-pub fn read_bytes(field: &[u8], out: &mut [u8]) -> Run
-    ensures length { λ r. ⌜ r ≡ runOf 2 (length (now (out .entry))) (now (field .entry)) ⌝ }
-    ensures read { λ r. ⌜ now (out .exit) ≡ readInto r (bytesOf (now (field .entry))) (now (out .entry)) ⌝ }
+fn no_number() -> Number
+    ensures { λ r. ⌜ r ≡ noNumber ⌝ }
 {
-    let run = run_of(field, 2, out.len());
-    if let Run::Length(n) = run {
-        fill_bytes(field, n, out);
+    Number {
+        ok: false,
+        value: 0,
     }
-    run
 }
 
 // The value of a hexadecimal digit, in lower case; 16 for any other byte.
@@ -125,14 +155,27 @@ fn value(digits: &[u8]) -> u64
 fn run_of(field: &[u8], width: usize, room: usize) -> Run
     requires { ⌜ 0 < width ⌝ }
     ensures { λ r. ⌜ r ≡ runOf width room (now (field .entry)) ⌝ }
+    ensures { λ r. ⌜ IsRun width room (now (field .entry)) (r .length) ⌝ }
 {
     if is_dash(field) {
-        return Run::Length(0);
+        return a_run(0);
     }
     if is_run(field, width, room) {
-        return Run::Length(field.len() / width);
+        return a_run(field.len() / width);
     }
-    Run::NoRun
+    Run {
+        ok: false,
+        length: 0,
+    }
+}
+
+fn a_run(n: usize) -> Run
+    ensures { λ r. ⌜ r ≡ run n ⌝ }
+{
+    Run {
+        ok: true,
+        length: n,
+    }
 }
 
 fn is_dash(field: &[u8]) -> bool
@@ -170,7 +213,7 @@ fn element(field: &[u8], width: usize, i: usize) -> u64
 }
 
 fn fill_floats(field: &[u8], n: usize, out: &mut [f32])
-    requires { ⌜ runOf 8 (length (now out)) (now field) ≡ Run.Length n ⌝ }
+    requires { ⌜ IsRun 8 (length (now out)) (now field) n ⌝ }
     ensures { λ _. ⌜ now (out .exit) ≡ over (floatsOf (now (field .entry)) n) (now (out .entry)) ⌝ }
 {
     let mut i = 0;
@@ -181,7 +224,7 @@ fn fill_floats(field: &[u8], n: usize, out: &mut [f32])
 }
 
 fn fill_bytes(field: &[u8], n: usize, out: &mut [u8])
-    requires { ⌜ runOf 2 (length (now out)) (now field) ≡ Run.Length n ⌝ }
+    requires { ⌜ IsRun 2 (length (now out)) (now field) n ⌝ }
     ensures { λ _. ⌜ now (out .exit) ≡ over (bytesOf (now (field .entry)) n) (now (out .entry)) ⌝ }
 {
     let mut i = 0;

@@ -1,5 +1,6 @@
 use native.Mathlib.Omega.{arith}
-use Rattle.encode.proofs.Fit.{says-no, says-yes, encodable-of}
+use Rattle.unit.proofs.Rotatable.{says-no, says-yes}
+use Rattle.encode.proofs.Fit.{encodable-of}
 use Rattle.encode.proofs.Whole.{not-encoded, encoded-into}
 use borrow.Author.Needs.{needs}
 use Rattle.encode.proofs.encode.Statement.{statement}
@@ -24,10 +25,10 @@ floats-requires : tie.Need-floats-requires
 floats-requires c κs = search needs
 
 sub-store-vector : tie.Need-sub-store-vector
-sub-store-vector c = search needs
+sub-store-vector c = omega arith
 
 part-rotated-start : tie.Need-part-rotated-start
-part-rotated-start c = search needs
+part-rotated-start c = omega arith
 
 part-rotated-end : tie.Need-part-rotated-end
 part-rotated-end c = omega (arith, encodable-of _ _ _ _ _ (says-yes (c .before .before .before .is-encodable .ensures) (c .before .before .if1 .left)) .rotates .room)
@@ -36,10 +37,10 @@ store-vector-requires : tie.Need-store-vector-requires
 store-vector-requires c κs = (says-yes (c .before .before .before .before .before .before .is-encodable .ensures) (c .before .before .before .before .before .if1 .left), search needs)
 
 same-length : tie.Need-same-length
-same-length c = search needs
+same-length c = omega (arith, c .before .before .before .before .before .store-vector .kept)
 
 same-length-2 : tie.Need-same-length-2
-same-length-2 c = search needs
+same-length-2 c = omega (arith, c .before .before .before .before .before .store-vector .kept)
 
 returns-2 : tie.Need-returns-2
 returns-2 c = encoded-into _ _ _ _ _ _ _ (says-yes (c .before .before .before .before .before .before .before .before .before .before .before .before .is-encodable .ensures) (c .before .before .before .before .before .before .before .before .before .before .before .if1 .left)) _ (c .before .before .before .before .before .store-vector .ensures)

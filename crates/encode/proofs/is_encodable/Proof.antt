@@ -1,11 +1,12 @@
-use Rattle.encode.proofs.Fit.{says-no, says-yes, no-rotation, no-fit, both-blocks, one-block}
+use Rattle.unit.proofs.Rotatable.{says-no, says-yes}
+use Rattle.encode.proofs.Fit.{no-rotation, no-fit, both-blocks, one-block}
 use borrow.Author.Needs.{needs}
 use Rattle.encode.proofs.is_encodable.Statement.{statement}
 use Rattle.encode.proofs.is_encodable.Tie as tie
 use Rattle.encode.proofs.is_encodable.Reads as reads
 use Rattle.encode.proofs.is_encodable.Lts as lts
-use Rattle.encode.proofs.fits.Reads as fits-reads
-use Rattle.encode.proofs.is_rotatable.Reads as is-rotatable-reads
+use Rattle.stage.proofs.fits.Reads as fits-reads
+use Rattle.unit.proofs.is_rotatable.Reads as is-rotatable-reads
 use Rattle.rhdh.proofs.padded_dim.Reads as padded-dim-reads
 
 is-rotatable-requires : tie.Need-is-rotatable-requires

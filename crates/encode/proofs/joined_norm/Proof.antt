@@ -6,7 +6,7 @@ use Rattle.encode.proofs.joined_norm.Reads as reads
 use Rattle.encode.proofs.joined_norm.Lts as lts
 use Rattle.encode.proofs.at_least_floor.Reads as at-least-floor-reads
 use Rattle.encode.proofs.dot.Reads as dot-reads
-use Rattle.encode.proofs.sum_squares.Reads as sum-squares-reads
+use Rattle.unit.proofs.sum_squares.Reads as sum-squares-reads
 use Rattle.sqrt.proofs.sqrt.Reads as sqrt-reads
 
 sum-squares-requires : tie.Need-sum-squares-requires

@@ -1,4 +1,4 @@
-use Rattle.encode.proofs.Vectors.{norm-is}
+use Rattle.unit.proofs.Vectors.{norm-is}
 use Rattle.encode.proofs.Stages.{first-scale-is, second-scale-is}
 use borrow.Author.Needs.{needs}
 use Rattle.encode.proofs.residual_scales.Statement.{statement}
@@ -6,7 +6,7 @@ use Rattle.encode.proofs.residual_scales.Tie as tie
 use Rattle.encode.proofs.residual_scales.Reads as reads
 use Rattle.encode.proofs.residual_scales.Lts as lts
 use Rattle.encode.proofs.joined_norm.Reads as joined-norm-reads
-use Rattle.encode.proofs.sum_squares.Reads as sum-squares-reads
+use Rattle.unit.proofs.sum_squares.Reads as sum-squares-reads
 use Rattle.pattern.proofs.to_bits.Reads as to-bits-reads
 use Rattle.sqrt.proofs.sqrt.Reads as sqrt-reads
 

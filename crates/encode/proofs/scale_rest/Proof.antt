@@ -1,10 +1,11 @@
+use native.Mathlib.Omega.{arith}
 use Rattle.encode.proofs.Stages.{scaled-is}
 use borrow.Author.Needs.{needs}
 use Rattle.encode.proofs.scale_rest.Statement.{statement}
 use Rattle.encode.proofs.scale_rest.Tie as tie
 use Rattle.encode.proofs.scale_rest.Reads as reads
 use Rattle.encode.proofs.scale_rest.Lts as lts
-use Rattle.encode.proofs.divide.Reads as divide-reads
+use Rattle.unit.proofs.divide.Reads as divide-reads
 use Rattle.encode.proofs.root_mean_square.Reads as root-mean-square-reads
 use Rattle.encode.proofs.subtract.Reads as subtract-reads
 
@@ -18,7 +19,7 @@ divide-requires : tie.Need-divide-requires
 divide-requires c κs = search needs
 
 same-length : tie.Need-same-length
-same-length c = search needs
+same-length c = omega (arith, c .before .before .divide .kept, c .before .before .before .before .before .before .before .before .subtract .kept)
 
 returns : tie.Need-returns
 returns c = scaled-is _ _ _ _ (c .before .before .before .before .before .before .before .before .subtract .ensures) (c .before .before .before .before .root-mean-square .ensures) (c .before .before .divide .ensures)

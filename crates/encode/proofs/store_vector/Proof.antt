@@ -1,12 +1,13 @@
+use native.Mathlib.Omega.{arith}
 use Rattle.encode.proofs.Whole.{residual-vector, plain-vector}
 use borrow.Author.Needs.{needs}
 use Rattle.encode.proofs.store_vector.Statement.{statement}
 use Rattle.encode.proofs.store_vector.Tie as tie
 use Rattle.encode.proofs.store_vector.Reads as reads
 use Rattle.encode.proofs.store_vector.Lts as lts
-use Rattle.encode.proofs.encode_plain.Reads as encode-plain-reads
+use Rattle.stage.proofs.encode_plain.Reads as encode-plain-reads
 use Rattle.encode.proofs.encode_residual.Reads as encode-residual-reads
-use Rattle.encode.proofs.rotate.Reads as rotate-reads
+use Rattle.unit.proofs.rotate.Reads as rotate-reads
 
 rotate-requires : tie.Need-rotate-requires
 rotate-requires c κs = search needs
@@ -15,13 +16,13 @@ encode-residual-requires : tie.Need-encode-residual-requires
 encode-residual-requires c κs = search needs
 
 same-length : tie.Need-same-length
-same-length c = search needs
+same-length c = omega (arith, c .before .before .before .before .encode-residual .kept, c .before .before .before .before .before .before .before .before .before .before .before .rotate .kept)
 
 same-length-2 : tie.Need-same-length-2
-same-length-2 c = search needs
+same-length-2 c = omega (arith, c .before .before .before .before .encode-residual .kept, c .before .before .before .before .before .before .before .before .before .before .before .rotate .kept)
 
 same-length-3 : tie.Need-same-length-3
-same-length-3 c = search needs
+same-length-3 c = omega (arith, c .before .before .before .before .encode-residual .kept, c .before .before .before .before .before .before .before .before .before .before .before .rotate .kept)
 
 returns : tie.Need-returns
 returns c =
@@ -32,10 +33,10 @@ encode-plain-requires : tie.Need-encode-plain-requires
 encode-plain-requires c κs = search needs
 
 same-length-4 : tie.Need-same-length-4
-same-length-4 c = search needs
+same-length-4 c = omega (arith, c .before .before .encode-plain .kept, c .before .before .before .before .before .before .before .before .rotate .kept)
 
 same-length-5 : tie.Need-same-length-5
-same-length-5 c = search needs
+same-length-5 c = omega (arith, c .before .before .encode-plain .kept, c .before .before .before .before .before .before .before .before .rotate .kept)
 
 returns-2 : tie.Need-returns-2
 returns-2 c =

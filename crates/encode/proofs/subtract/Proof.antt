@@ -1,5 +1,6 @@
 use Rattle.encode.specs.Encode.{differences}
-use Rattle.encode.proofs.Filling.{Filled, differences-none, differences-next, differences-all}
+use Rattle.unit.proofs.Filling.{Filled}
+use Rattle.encode.proofs.Filling.{differences-none, differences-next, differences-all}
 use Prim.Native.Nat.{_-_}
 use lib.ListN.{length}
 use borrow.Author.Needs.{needs}

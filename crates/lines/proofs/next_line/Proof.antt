@@ -1,28 +1,34 @@
 use mathlib.Core.Path.{_≡_, refl}
-use Prim.Native.Nat.{zero-le}
-use native.Mathlib.Nat.{le-antisymm}
+use Prim.Native.Nat.{_≤_, zero-le}
+use native.Mathlib.Nat.{le-antisymm, le-refl}
 use native.Mathlib.Omega.{arith}
 use borrow.Author.Needs.{needs}
 use lib.ListN.{length}
 use Rattle.lines.specs.Lines.{Within}
+use Rattle.lines.proofs.Cursors.{end-handed, handed-from}
 use Rattle.lines.proofs.Newlines.{same-front}
 use Rattle.lines.proofs.next_line.Statement.{statement}
 use Rattle.lines.proofs.next_line.Tie as tie
 
 abbrev Inv-loop : tie.InvT-loop
-Inv-loop buf₀ left₀ long₀ reads₀ buf left long reads = (length buf ≡ length buf₀) × Within (length buf) left
+Inv-loop buf₀ part₀ long₀ left₀ buf part long left = (length buf ≡ length buf₀) × Within (length buf) part × (left ≤ left₀)
 
 abbrev μ-loop : tie.MeasureT-loop
-μ-loop buf₀ left₀ long₀ reads₀ buf left long reads = reads
+μ-loop buf₀ part₀ long₀ left₀ buf part long left = left
 
 within-requires : tie.Need-within-requires Inv-loop μ-loop
 within-requires c κs = search needs
 
 loop-holds : tie.Need-loop-holds Inv-loop μ-loop
-loop-holds c = (refl, c .within .ensures)
+loop-holds c = (refl, c .within .ensures .1, le-refl _)
+
+sub-left : tie.Need-sub-left Inv-loop μ-loop
+sub-left c = c .loop-test .taken
 
 newline-requires : tie.Need-newline-requires Inv-loop μ-loop
-newline-requires c κs = (c .before .before .loop .inv .1 .ordered, c .before .before .loop .inv .1 .inside)
+newline-requires c κs =
+    let part = c .before .before .loop .inv .1 in
+    (part .ordered, part .inside)
 
 found-requires : tie.Need-found-requires Inv-loop μ-loop
 found-requires c κs =
@@ -33,7 +39,7 @@ same-length : tie.Need-same-length Inv-loop μ-loop
 same-length c = c .before .before .before .before .before .before .loop .inv .0
 
 returns : tie.Need-returns Inv-loop μ-loop
-returns c = c .found .ensures
+returns c = handed-from _ _ _ _ (omega (arith, c .before .before .before .before .before .loop-test .taken, c .before .before .before .before .before .before .loop .inv .2)) (c .found .ensures)
 
 sub-if2 : tie.Need-sub-if2 Inv-loop μ-loop
 sub-if2 c = c .before .before .before .before .loop .inv .1 .ordered
@@ -41,8 +47,8 @@ sub-if2 c = c .before .before .before .before .loop .inv .1 .ordered
 keep-requires : tie.Need-keep-requires Inv-loop μ-loop
 keep-requires c κs =
     let seen = c .before .before .before .newline .ensures in
-    let loop = c .before .before .before .before .before .before .loop in
-    ((loop .inv .1 .ordered, loop .inv .1 .inside), rw (le-antisymm (seen .0 .1) (c .before .before .if1 .left)) at (seen .1))
+    let part = c .before .before .before .before .before .before .loop .inv .1 in
+    ((part .ordered, part .inside), rw (le-antisymm (seen .0 .1) (c .before .before .if1 .left)) at (seen .1))
 
 read-more-requires : tie.Need-read-more-requires Inv-loop μ-loop
 read-more-requires c κs = omega (arith, c .before .before .before .keep .ensures .0, c .before .before .before .keep .kept .0)
@@ -54,16 +60,25 @@ last-requires c κs =
     (omega (arith, kept .ensures .0, kept .kept .0, got .kept .0), same-front _ _ _ (got .ensures .1) (kept .ensures .1))
 
 same-length-2 : tie.Need-same-length-2 Inv-loop μ-loop
-same-length-2 c = omega (arith, c .before .before .before .before .before .read-more .kept .0, c .before .before .before .before .before .before .before .before .before .keep .kept .0, c .before .before .before .before .before .before .before .before .before .before .before .before .before .before .before .before .loop .inv .0)
+same-length-2 c =
+    let got = c .before .before .before .before .before .read-more in
+    let kept = c .before .before .before .before .before .before .before .before .before .keep in
+    let loop = c .before .before .before .before .before .before .before .before .before .before .before .before .before .before .before .before .loop in
+    omega (arith, got .kept .0, kept .kept .0, loop .inv .0)
 
 returns-2 : tie.Need-returns-2 Inv-loop μ-loop
-returns-2 c = c .last .ensures
+returns-2 c =
+    let test = c .before .before .before .before .before .before .before .before .before .before .before .before .before .before .before .loop-test in
+    let loop = c .before .before .before .before .before .before .before .before .before .before .before .before .before .before .before .before .loop in
+    handed-from _ _ _ _ (omega (arith, test .taken, loop .inv .2)) (c .last .ensures)
 
-add-t17 : tie.Need-add-t17 Inv-loop μ-loop
-add-t17 c = omega (arith, c .before .before .before .read-more .ensures .0, c .before .before .before .before .before .before .before .keep .kept .0, c .before .before .before .before .before .before .before .before .before .before .before .before .before .before .loop .inv .0, c .before .before .before .before .before .before .before .before .before .before .before .before .before .before .before .before .before .good)
-
-sub-reads : tie.Need-sub-reads Inv-loop μ-loop
-sub-reads c = c .before .before .before .before .before .before .before .before .before .before .before .before .before .loop-test .taken
+add-t18 : tie.Need-add-t18 Inv-loop μ-loop
+add-t18 c =
+    let got = c .before .before .before .read-more in
+    let kept = c .before .before .before .before .before .before .before .keep in
+    let loop = c .before .before .before .before .before .before .before .before .before .before .before .before .before .before .loop in
+    let start = c .before .before .before .before .before .before .before .before .before .before .before .before .before .before .before .before .before .before in
+    omega (arith, got .ensures .0, kept .kept .0, loop .inv .0, start .good)
 
 loop-less : tie.Need-loop-less Inv-loop μ-loop
 loop-less c = omega (arith, c .before .before .before .before .before .before .before .before .before .before .before .before .before .loop-test .taken)
@@ -72,13 +87,20 @@ loop-again : tie.Need-loop-again Inv-loop μ-loop
 loop-again c =
     let got = c .before .before .before .read-more in
     let kept = c .before .before .before .before .before .before .before .keep in
-    (omega (arith, got .kept .0, kept .kept .0, c .before .before .before .before .before .before .before .before .before .before .before .before .before .before .loop .inv .0), record { ordered = zero-le; inside = omega (arith, got .ensures .0, got .kept .0) })
+    let loop = c .before .before .before .before .before .before .before .before .before .before .before .before .before .before .loop in (
+      omega (arith, got .kept .0, kept .kept .0, loop .inv .0),
+      record { ordered = zero-le; inside = omega (arith, got .ensures .0, got .kept .0) },
+      omega (arith, loop .inv .2),
+    )
+
+at-rest-requires : tie.Need-at-rest-requires Inv-loop μ-loop
+at-rest-requires c κs = search needs
 
 same-length-3 : tie.Need-same-length-3 Inv-loop μ-loop
-same-length-3 c = c .before .loop .inv .0
+same-length-3 c = c .before .before .loop .inv .0
 
 returns-3 : tie.Need-returns-3 Inv-loop μ-loop
-returns-3 c = tt
+returns-3 c = end-handed _ _ _ (c .at-rest .ensures)
 
 pub next-line-spec : {M : Type 1} → statement M
 next-line-spec =
@@ -88,6 +110,7 @@ next-line-spec =
     μ-loop
     within-requires
     loop-holds
+    sub-left
     newline-requires
     found-requires
     same-length
@@ -98,9 +121,9 @@ next-line-spec =
     last-requires
     same-length-2
     returns-2
-    add-t17
-    sub-reads
+    add-t18
     loop-less
     loop-again
+    at-rest-requires
     same-length-3
     returns-3)

@@ -1,4 +1,4 @@
-use mathlib.Core.Path.{sym}
+use mathlib.Core.Path.{refl, sym}
 use native.Mathlib.Omega.{arith}
 use lib.Seq.{set-out}
 use borrow.Author.Needs.{needs}
@@ -15,7 +15,7 @@ same-length : tie.Need-same-length
 same-length c = search needs
 
 returns : tie.Need-returns
-returns c = search needs
+returns c = record { text = refl; place = omega arith }
 
 returns-2 : tie.Need-returns-2
 returns-2 c = record { text = sym (set-out _ _ _ (c .if1 .left)); place = omega arith }

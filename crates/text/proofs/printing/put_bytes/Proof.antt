@@ -10,10 +10,10 @@ use Rattle.text.proofs.printing.put_bytes.Statement.{statement}
 use Rattle.text.proofs.printing.put_bytes.Tie as tie
 
 abbrev Inv-loop : tie.InvT-loop
-Inv-loop out₀ at bytes next₀ i₀ out next i = (i ≤ length bytes) × Put out₀ at (take i bytes) out next
+Inv-loop out₀ at bytes end₀ i₀ out end i = (i ≤ length bytes) × Put out₀ at (take i bytes) out end
 
 abbrev μ-loop : tie.MeasureT-loop
-μ-loop out₀ at bytes next₀ i₀ out next i = length bytes - i
+μ-loop out₀ at bytes end₀ i₀ out end i = length bytes - i
 
 least-requires : tie.Need-least-requires Inv-loop μ-loop
 least-requires c κs = search needs

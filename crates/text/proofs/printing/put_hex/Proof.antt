@@ -1,4 +1,5 @@
 use borrow.Author.Needs.{needs}
+use Rattle.text.proofs.Places.{put-number}
 use Rattle.text.proofs.printing.put_hex.Statement.{statement}
 use Rattle.text.proofs.printing.put_hex.Tie as tie
 
@@ -20,7 +21,7 @@ same-length c = search needs
 returns : tie.Need-returns
 returns c =
     let called = c .before .before .before .before .before .hex in
-    record { count = called .result; fewest = called .ensures .1 .0; put = rw (called .ensures .1 .1) at (c .before .before .put-bytes .ensures) }
+    put-number _ _ _ _ _ _ _ _ _ (called .ensures .1 .0) (called .ensures .1 .1) (c .before .before .put-bytes .ensures)
 
 pub put-hex-spec : {M : Type 1} → statement M
 put-hex-spec =

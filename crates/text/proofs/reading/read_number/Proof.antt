@@ -1,7 +1,8 @@
-use mathlib.Core.Path.{sym, ap, _∙_}
+use mathlib.Core.Path.{_≡_, sym, ap, _∙_}
+use mathlib.Core.Bool.{true}
+use Prim.Native.Nat.{zero-le}
 use borrow.Author.Needs.{needs}
-use Rattle.text.specs.declared.reading.Number.the-variants.{Value}
-use Rattle.text.specs.Reading.{numberOf}
+use Rattle.text.specs.Reading.{isNumber, atMost, numberOf}
 use Rattle.text.proofs.Runs.{number-is}
 use Rattle.text.proofs.reading.read_number.Statement.{statement}
 use Rattle.text.proofs.reading.read_number.Tie as tie
@@ -12,13 +13,31 @@ is-number-requires c κs = search needs
 value-requires : tie.Need-value-requires
 value-requires c κs = number-is (c .before .before .before .args .field .now) (sym (c .before .is-number .ensures) ∙ c .if1 .taken)
 
+at-most-requires : tie.Need-at-most-requires
+at-most-requires c κs = search needs
+
 returns : tie.Need-returns
 unfolding numberOf
-returns c = simp (sym (c .before .before .is-number .ensures) ∙ c .before .if1 .taken) (ap Value (c .value .ensures .0))
+returns c =
+    let start = c .before .before .before .before .before in
+    let is : isNumber (start .args .field .now) ≡ true = sym (c .before .before .before .is-number .ensures) ∙ c .before .before .if1 .taken in
+    let same = ap (atMost (start .args .most)) (c .before .value .ensures .0) in
+    (simp is (c .at-most .ensures .0 ∙ same), c .at-most .ensures .1)
+
+no-number-requires : tie.Need-no-number-requires
+no-number-requires c κs = search needs
 
 returns-2 : tie.Need-returns-2
 unfolding numberOf
-returns-2 c = simp (sym (c .before .is-number .ensures) ∙ c .if1 .left)
+returns-2 c = (simp (sym (c .before .before .is-number .ensures) ∙ c .before .if1 .left) (c .no-number .ensures), rw (c .no-number .ensures) zero-le)
 
 pub read-number-spec : {M : Type 1} → statement M
-read-number-spec = tie.close (tie.spec is-number-requires value-requires returns returns-2)
+read-number-spec =
+    tie.close
+    (tie.spec
+    is-number-requires
+    value-requires
+    at-most-requires
+    returns
+    no-number-requires
+    returns-2)

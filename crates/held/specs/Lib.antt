@@ -1,0 +1,2 @@
+-- Which of the first slots hold a key.
+pub mod Held

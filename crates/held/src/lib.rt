@@ -1,0 +1,101 @@
+// The slots that hold a key, found by scanning (document 01, "keys found by scanning").
+// An entry past the end of its array counts as none: no key, word 0, position 0.
+ghost use mathlib.Core.Path.{_≡_};
+ghost use mathlib.Core.Bool.{false};
+ghost use lib.ListN.{getD};
+ghost use Rattle.held.specs.Held.{slotHas, slotHolds, heldCount, heldSlot};
+
+// ---- one slot
+
+// Whether a slot has a key.
+pub fn is_keyed(keyed: &[bool], slot: usize) -> bool
+    ensures { λ r. ⌜ r ≡ getD (now (keyed .entry)) slot false ⌝ }
+{
+    if slot < keyed.len() {
+        return keyed[slot];
+    }
+    false
+}
+
+// The word that stands for a slot's key, where it has one.
+pub fn key_word(keys: &[u64], slot: usize) -> u64
+    ensures { λ r. ⌜ r ≡ getD (now (keys .entry)) slot 0 ⌝ }
+{
+    if slot < keys.len() {
+        return keys[slot];
+    }
+    0
+}
+
+// The position of a slot in held order, where it has a key.
+pub fn held_position(held: &[u32], slot: usize) -> usize
+    ensures { λ r. ⌜ r ≡ getD (now (held .entry)) slot 0 ⌝ }
+{
+    if slot < held.len() {
+        return held[slot] as usize;
+    }
+    0
+}
+
+// Whether a slot has this key.
+pub fn has_key(keys: &[u64], keyed: &[bool], slot: usize, key: u64) -> bool
+    ensures { λ r. ⌜ r ≡ slotHas (now (keys .entry)) (now (keyed .entry)) key slot ⌝ }
+{
+    if is_keyed(keyed, slot) {
+        return key_word(keys, slot) == key;
+    }
+    false
+}
+
+// Whether a slot holds this position of the key.
+fn holds_position(
+    keys: &[u64],
+    keyed: &[bool],
+    held: &[u32],
+    slot: usize,
+    key: u64,
+    position: usize,
+) -> bool
+    ensures { λ r. ⌜ r ≡ slotHolds (now (keys .entry)) (now (keyed .entry)) (now (held .entry)) key position slot ⌝ }
+{
+    if has_key(keys, keyed, slot, key) {
+        return held_position(held, slot) == position;
+    }
+    false
+}
+
+// ---- the first n slots
+
+// How many slots the key has.
+pub fn held_count(keys: &[u64], keyed: &[bool], n: usize, key: u64) -> usize
+    ensures { λ r. ⌜ r ≡ heldCount (now (keys .entry)) (now (keyed .entry)) n key ⌝ }
+{
+    let mut many: usize = 0;
+    let mut i = 0;
+    while i < n {
+        many += has_key(keys, keyed, i, key) as usize;
+        i += 1;
+    }
+    many
+}
+
+// The slot that holds the position of the key, the first one where there are several; n where there is none.
+pub fn held_slot(
+    keys: &[u64],
+    keyed: &[bool],
+    held: &[u32],
+    n: usize,
+    key: u64,
+    position: usize,
+) -> usize
+    ensures { λ r. ⌜ r ≡ heldSlot (now (keys .entry)) (now (keyed .entry)) (now (held .entry)) n key position ⌝ }
+{
+    let mut i = 0;
+    while i < n {
+        if holds_position(keys, keyed, held, i, key, position) {
+            return i;
+        }
+        i += 1;
+    }
+    n
+}

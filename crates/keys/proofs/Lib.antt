@@ -1,0 +1,2 @@
+-- Laws of the key questions.
+mod Questions

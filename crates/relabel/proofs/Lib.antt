@@ -1,0 +1,7 @@
+-- Laws of calls that change marks.
+mod Tests
+mod Parts
+mod Marked
+mod Replaced
+mod Loops
+mod Accepted

@@ -1,0 +1,114 @@
+-- Codes and scale of a rotated vector, from what the working functions ensure.
+use mathlib.Core.Path.{_≡_, refl, sym, ap, ap₂, _∙_}
+use mathlib.Core.Bool.{Bool, true, false}
+use mathlib.Core.List.{List, [], _∷_, append-nil}
+use Prim.Native.Nat.{ℕ, zero, suc, _^_, _<_}
+use native.Mathlib.Nat.{lt-of-le-of-lt}
+use native.Mathlib.Omega.{arith}
+use borrow.Author.Tests.{le-leb, eq-eqb, ne-eqb}
+use lib.ListN.{length, length-map}
+use lib.Seq.{drop-length}
+use lib.Pow.{pow-pos, pow-mono}
+use lib.Ieee.{Float, binary32, ofBits, toBits, ofInt, round}
+use Rattle.digits.specs.Digits.{Below}
+use Rattle.pattern.specs.Binary32.{_⊘_, whole, sumSquares}
+use Rattle.sqrt.specs.Root.{SquareRoot}
+use Rattle.lists.specs.Lists.{over}
+use Rattle.lloyd.specs.Quantizer as Quantizer
+use Rattle.lloyd.specs.Quantizer.{quantized}
+use Rattle.lloyd.proofs.Quantized.{quantized-le}
+use Rattle.codes.specs.Packing.{packed}
+use Rattle.codes.specs.Writing.{written}
+use Rattle.codes.specs.Stage.{stage}
+use Rattle.codes.proofs.Tests.{written-yes}
+use Rattle.unit.proofs.Vectors.{norm-is}
+use Rattle.stage.specs.Coding.{table, coded, decoded, dequantized, plainScale, plain, stored}
+use Rattle.stage.specs.Calls.{fits, spareAfter, Left, left, storedInto, plainInto}
+use Rattle.stage.proofs.Filling.{length-decoded}
+use Rattle.stage.proofs.Fit.{Fits}
+
+-- ---- one stage
+
+pub length-coded : (b xs : List Float) → length (coded b xs) ≡ length xs
+unfolding coded
+length-coded b xs = length-map xs (quantized b)
+
+-- a table of fewer boundaries than the width has codes gives codes of this width
+coded-below : (w : ℕ) (b : List Float) → length b < 2 ^ w → (xs : List Float) → Below (2 ^ w) (coded b xs)
+unfolding coded
+coded-below w b h [] i = pow-pos w
+coded-below w b h (x ∷ xs) zero = lt-of-le-of-lt (quantized-le b x) h
+coded-below w b h (x ∷ xs) (suc i) = coded-below w b h xs i
+
+module _ (w : ℕ) (b xs : List Float) (bytes : ℕ) (f : Fits w (length b) (length xs) bytes) where
+  pub codes-are : (codes next : List ℕ) → length codes ≡ length xs → next ≡ Quantizer.coded b xs codes → next ≡ coded b xs
+  unfolding Quantizer.coded over coded
+  codes-are codes next l e =
+      let most = pow-mono {i = w} {j = 8} (f .width .most) in
+      e
+      ∙ rw (le-leb (length b) 255 (omega (arith, f .table)), le-leb (length xs) (length codes) (omega arith), length-map xs, ← l, drop-length codes) (append-nil _)
+
+  pub block-is : (fresh : Bool) (block codes next : List ℕ) → length block ≡ bytes → codes ≡ coded b xs → next ≡ written w codes (spareAfter fresh w (length codes) block) block
+      → next ≡ packed w (coded b xs) (spareAfter fresh w (length xs) block)
+  block-is fresh block codes next l c e =
+      let n = ap length c ∙ length-coded b xs in
+      e
+      ∙ rw (n, c)
+      (written-yes (spareAfter fresh w (length xs) block) block (record { width = f .width; size = rw (length-coded b xs) (l ∙ f .size); fit = coded-below w b (f .table) xs }))
+
+pub values-are : (b c xs : List Float) (codes : List ℕ) (next : List Float) → codes ≡ coded b xs → next ≡ decoded c codes → next ≡ dequantized (table b c) xs
+values-are b c xs codes next e d = d ∙ ap (decoded c) e
+
+pub length-dequantized : (b c xs : List Float) → length (dequantized (table b c) xs) ≡ length xs
+length-dequantized b c xs = length-decoded c (coded b xs) ∙ length-coded b xs
+
+-- ---- the call for one stage
+
+module _ (b c xs d : List Float) (w : ℕ) (fresh : Bool) (block : List ℕ) where
+  pub not-stored : fits w (length b) (length xs) (length block) ≡ false → left d block ≡ storedInto (table b c) w fresh xs d block
+  unfolding storedInto
+  not-stored e = rw e
+
+  module _ (f : fits w (length b) (length xs) (length block) ≡ true) where
+    pub other-places : (length d ≡ length xs → ⊥) → left d block ≡ storedInto (table b c) w fresh xs d block
+    unfolding storedInto
+    other-places n = rw (f, ne-eqb (length d) (length xs) n)
+
+    stored-fit : length d ≡ length xs → left (dequantized (table b c) xs) (packed w (coded b xs) (spareAfter fresh w (length xs) block)) ≡ storedInto (table b c) w fresh xs d block
+    unfolding storedInto
+    stored-fit l = rw (f, eq-eqb (length d) (length xs) l)
+
+    pub stored-into : (values : List Float) (next : List ℕ) → length d ≡ length xs → values ≡ dequantized (table b c) xs → next ≡ packed w (coded b xs) (spareAfter fresh w (length xs) block)
+        → left values next ≡ storedInto (table b c) w fresh xs d block
+    stored-into values next l v p = ap₂ left v p ∙ stored-fit l
+
+  -- what the call has written, where n entries fit a block of m bytes
+  pub stored-yes : (values : List Float) (next : List ℕ) → left values next ≡ storedInto (table b c) w fresh xs d block
+      → (n m : ℕ) → fits w (length b) n m ≡ true → length xs ≡ n → length block ≡ m → length d ≡ n
+      → (values ≡ dequantized (table b c) xs) × (next ≡ packed w (coded b xs) (spareAfter fresh w (length xs) block))
+  stored-yes values next e n m f l k h =
+      let g = e ∙ sym (stored-fit (rw (l, k) f) (h ∙ sym l)) in
+      (ap (λ (z : Left). z .values) g, ap (λ (z : Left). z .block) g)
+
+-- ---- the scale of a plain index
+
+pub one-is : ofBits binary32 0x3F80_0000 ≡ whole 1
+unfolding ofBits ofInt round
+one-is = refl
+
+pub plain-is : (b c xs : List Float) (w above : ℕ) (d : List Float) (s n : Float) (r : ℕ) (next : List ℕ) → d ≡ dequantized (table b c) xs → next ≡ packed w (coded b xs) above
+    → s ≡ sumSquares d → SquareRoot s n → r ≡ toBits binary32 (ofBits binary32 0x3F80_0000 ⊘ n) → stage r next ≡ stored w above (plain (table b c) xs)
+unfolding plain plainScale
+plain-is b c xs w above d s n r next values packs e root p = ap₂ stage (p ∙ rw (norm-is d s n e root, one-is, values)) packs
+
+-- ---- the whole call for a plain index
+
+module _ (b c xs : List Float) (w : ℕ) (fresh : Bool) (block : List ℕ) where
+  pub not-plain : fits w (length b) (length xs) (length block) ≡ false → stage 0 block ≡ plainInto (table b c) w fresh xs block
+  unfolding plainInto
+  not-plain e = rw e
+
+  pub plain-into : (r : ℕ) (next : List ℕ) → fits w (length b) (length xs) (length block) ≡ true → stage r next ≡ stored w (spareAfter fresh w (length xs) block) (plain (table b c) xs)
+      → stage r next ≡ plainInto (table b c) w fresh xs block
+  unfolding plainInto
+  plain-into r next e s = rw e s

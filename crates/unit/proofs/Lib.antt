@@ -1,0 +1,6 @@
+-- Laws that the proofs of this crate's functions cite, and those of the crates above.
+mod Sums
+pub mod Filling
+pub mod FloatTests
+pub mod Rotatable
+pub mod Vectors

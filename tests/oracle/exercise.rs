@@ -1,0 +1,783 @@
+//! The fixed list of the program `exercise`. The Rust's answer stands where the line is inside the comparison; the answers to all other lines are
+//! written here, from document 01 and from the language.
+use crate::driver::{Answer, Driver};
+use crate::list::List;
+use crate::model::block_size;
+use crate::random::Random;
+use crate::text::vector;
+
+#[derive(Default)]
+struct Tally {
+    rust: usize,
+    language: usize,
+    stated: usize,
+}
+
+struct Fixed {
+    list: List,
+    driver: Driver,
+    tally: Tally,
+}
+
+impl Fixed {
+    fn section(&mut self, title: &str) {
+        self.list.section(title);
+    }
+
+    /// A comment line that says what comes.
+    fn label(&mut self, text: &str) {
+        self.list.ask(format!("# {text}"), String::new());
+    }
+
+    /// A line whose answer is the Rust's, or the language's `ok`.
+    fn ask(&mut self, line: impl Into<String>) {
+        let line = line.into();
+        let answer = self.driver.answer(line.as_bytes());
+        match &answer {
+            Answer::Rust(_) => self.tally.rust += 1,
+            Answer::Language(text) if text == "ok" => self.tally.language += 1,
+            _ => panic!("{line}: its answer must be stated, the driver has {answer}"),
+        }
+        self.list.ask(line, answer.text().to_string());
+    }
+
+    fn asks(&mut self, lines: &[&str]) {
+        lines.iter().for_each(|&line| self.ask(line));
+    }
+
+    /// A line outside the comparison, or without a call, with the answer that document 01 or the language has. The driver's reading must be the same.
+    fn told(&mut self, line: impl Into<String>, answer: &str) {
+        let line = line.into();
+        let theirs = self.driver.answer(line.as_bytes());
+        assert!(!matches!(theirs, Answer::Rust(_)), "{line}: the Rust answers it");
+        assert_eq!(theirs.text(), answer, "{line}: two readings");
+        self.tally.stated += 1;
+        self.list.ask(line, answer.to_string());
+    }
+
+    fn told_all(&mut self, lines: &[&str], answer: &str) {
+        lines.iter().for_each(|&line| self.told(line, answer));
+    }
+
+    /// Room for so many slots in every array.
+    fn lend(&mut self, slots: usize, block: usize) {
+        let lengths = [slots * block, slots, slots, slots, slots, slots, slots * block, slots];
+        self.ask(format!("lend {}", lengths.map(|n| format!("{n:x}")).join(" ")));
+    }
+}
+
+pub fn list() -> List {
+    let mut fixed = Fixed { list: List::default(), driver: Driver::new(), tally: Tally::default() };
+    start(&mut fixed);
+    examples(&mut fixed);
+    sizes(&mut fixed);
+    large(&mut fixed);
+    keys(&mut fixed);
+    room(&mut fixed);
+    cascade(&mut fixed);
+    spare_bits(&mut fixed);
+    vectors(&mut fixed);
+    order(&mut fixed);
+    making_misfits(&mut fixed);
+    short_arrays(&mut fixed);
+    misfits(&mut fixed);
+    no_misfits(&mut fixed);
+    histories(&mut fixed);
+    unreadable(&mut fixed);
+    let Tally { rust, language, stated } = fixed.tally;
+    println!("{rust:6}  answers of the Rust, {language} ok of the language, {stated} stated");
+    fixed.list
+}
+
+fn v(entries: &[f32]) -> String {
+    vector(entries)
+}
+
+/// A vector of the dimension, another one for each number.
+fn nth(dim: usize, number: u64) -> String {
+    let mut random = Random::new(1000 * dim as u64 + number);
+    let entries: Vec<f32> = (0..dim).map(|_| random.below(19) as f32 - 9.0).collect();
+    if entries.iter().all(|&x| x == 0.0) { v(&vec![1.0; dim]) } else { v(&entries) }
+}
+
+/// Five of the calls of an index that is there, others at each turn, so that each comes often. The first test is the same in all of them.
+fn some_calls(turn: usize) -> Vec<String> {
+    let w = nth(4, 0);
+    let plain = ["bits 4", "relabel 7 9", "relabel 7 7", "remove 7", "remove_at 7 0", "key_of 0", "contains 7", "slot_at 7 0", "enable", "compact"];
+    let mut lines: Vec<String> = plain.map(str::to_string).to_vec();
+    lines.extend([format!("add {w}"), format!("add_keyed 7 {w}"), format!("add_keyed 5 {w}"), format!("add_multi 7 {w}")]);
+    (0..5).map(|i| lines[(5 * turn + i) % lines.len()].clone()).collect()
+}
+
+// ---- the start, and document 01's examples
+
+fn start(f: &mut Fixed) {
+    f.section("the start: every array lent with length 0, the record that of new(1, 0)");
+    f.asks(&["dump", "contains 0", "key_of 0", "slot_at 0 0", "remove 0", "remove_at 0 0", "relabel 0 1", "compact", "bits 4", "enable", "dump"]);
+    f.label("no room: 8");
+    f.told("add 3f800000", "refused 8");
+    f.label("ours: an accepted width call ends the cascade");
+    f.told("bits 5", "ok");
+    f.ask("dump");
+    f.label("a lent array holds no slot: 13");
+    f.told_all(&["new 1 0", "working 2 1 0", "residual 1 0"], "refused 13");
+}
+
+fn examples(f: &mut Fixed) {
+    f.section("document 01's examples of refusals");
+    f.lend(2, 4);
+    f.label("4: dim 4,097");
+    f.told("new 1001 1", "refused 4");
+    f.told("working 1001 1 1", "refused 4");
+    f.told("residual 1001 1", "refused 4");
+    f.ask("new 4 1");
+    f.label("1: 3 entries, dim 4");
+    for call in ["add", "add_keyed 7", "add_multi 7"] {
+        f.told(format!("{call} {}", v(&[1.0, 2.0, 3.0])), "refused 1");
+    }
+    f.label("2: 0,0,0,0");
+    for call in ["add", "add_keyed 7", "add_multi 7"] {
+        f.told(format!("{call} {}", v(&[0.0; 4])), "refused 2");
+    }
+    f.label("5: width 7");
+    f.told("bits 7", "refused 5");
+    f.label("11: 5 bits");
+    f.told("enable", "refused 11");
+    f.label("6: width set with one slot in use");
+    f.ask(format!("add {}", v(&[1.0, 2.0, 3.0, 4.0])));
+    f.told("bits 4", "refused 6");
+    f.label("8: capacity 2, third add");
+    f.ask("lend 6 2 2 2 2 2 0 0");
+    f.ask("new 4 1");
+    f.ask(format!("add {}", v(&[1.0, 2.0, 3.0, 4.0])));
+    f.ask(format!("add_keyed 7 {}", v(&[4.0, 3.0, 2.0, 1.0])));
+    f.told(format!("add {}", v(&[1.0; 4])), "refused 8");
+    f.ask("dump");
+    f.label("3: 1e30, 0");
+    f.ask("new 2 1");
+    for call in ["add", "add_keyed 7", "add_multi 7"] {
+        f.told(format!("{call} {}", v(&[1.0e30, 0.0])), "refused 3");
+    }
+    f.label("7: residual, width 5");
+    f.lend(2, 4);
+    f.ask("residual 4 1");
+    f.told("bits 5", "refused 7");
+    f.told("bits 6", "refused 7");
+    f.ask("bits 4");
+    f.label("13: arrays lent anew under a live slot");
+    f.ask("lend 2 1 1 1 1 1 2 1");
+    f.ask("residual 4 1");
+    f.ask(format!("add_keyed 7 {}", v(&[1.0, 2.0, 3.0, 4.0])));
+    f.ask("lend 2 1 1 1 1 1 2 0");
+    f.told("contains 7", "refused 13");
+    f.label("its worked example: dim 1, seed 1, width 5, 3.0 added unkeyed");
+    f.lend(1, 1);
+    f.asks(&["new 1 1", "add 40400000", "dump"]);
+}
+
+// ---- sizes
+
+/// A short history over three slots: append, overwrite, one more slot of a key, a removal, a compaction, an append into a place left behind.
+fn short_history(f: &mut Fixed, dim: usize, making: &str, width: u8, residual: bool) {
+    let w = |number| nth(dim, number);
+    f.ask(making);
+    f.ask(format!("bits {width:x}"));
+    f.ask(format!("add_keyed 7 {}", w(1)));
+    f.ask(format!("add {}", w(2)));
+    f.ask(format!("add_multi 7 {}", w(3)));
+    f.ask(format!("add_keyed 7 {}", w(4)));
+    f.ask("dump");
+    f.ask("remove_at 7 0");
+    if residual {
+        // Ours: codes2 and scales2 move with their slots.
+        f.told("compact", "ok");
+    } else {
+        f.ask("compact");
+    }
+    f.ask(format!("add_keyed 8 {}", w(5)));
+    f.ask("dump");
+}
+
+fn sizes(f: &mut Fixed) {
+    f.section("dims 1 to 17, each width and the residual: append, overwrite, removal, compaction, append again");
+    for dim in 1..=17 {
+        for width in [4, 5, 6] {
+            f.lend(3, block_size(dim, width.max(5)));
+            short_history(f, dim, &format!("new {dim:x} {:x}", 11 * dim), width, false);
+        }
+        f.lend(3, block_size(dim, 4));
+        short_history(f, dim, &format!("residual {dim:x} {:x}", 13 * dim), 4, true);
+    }
+    f.section("fewer working dimensions");
+    for (dim, working, width) in [(2, 1, 4), (2, 1, 5), (3, 2, 6), (5, 4, 4), (9, 8, 5), (16, 5, 6), (17, 16, 4)] {
+        f.lend(3, block_size(working, width.max(5)));
+        short_history(f, dim, &format!("working {dim:x} {working:x} ffffffffffffffff"), width, false);
+    }
+}
+
+fn large(f: &mut Fixed) {
+    f.section("dims 33, 64, 100, 255 and 4,096");
+    for dim in [33, 64, 100, 255, 4096] {
+        let block = block_size(dim, 5);
+        f.lend(1, block);
+        for making in [format!("new {dim:x} 0"), format!("residual {dim:x} 1"), format!("working {dim:x} {:x} 2", dim / 2 + 1)] {
+            f.ask(making);
+            f.ask(format!("add_keyed ffffffffffffffff {}", nth(dim, 1)));
+            f.ask("dump");
+        }
+    }
+}
+
+// ---- keys
+
+fn keys(f: &mut Fixed) {
+    f.section("keys: held order, overwriting, relabelling, removals, questions");
+    let w: Vec<String> = (0..12).map(|number| nth(3, number)).collect();
+    let questions = |f: &mut Fixed| {
+        for key in ["7", "8", "0", "ffffffffffffffff"] {
+            f.ask(format!("contains {key}"));
+            for position in ["0", "1", "2", "3"] {
+                f.ask(format!("slot_at {key} {position}"));
+            }
+        }
+        for slot in ["0", "1", "2", "3", "4", "5", "6", "ffffffffffffffff"] {
+            f.ask(format!("key_of {slot}"));
+        }
+        f.ask("dump");
+    };
+    f.lend(6, 3);
+    f.ask("new 3 5");
+    questions(f);
+    for (number, key) in ["7", "7", "7", "8", "ffffffffffffffff"].iter().enumerate() {
+        f.ask(format!("add_multi {key} {}", w[number]));
+    }
+    f.ask(format!("add {}", w[5]));
+    questions(f);
+    f.label("add_keyed on a key with several slots overwrites the first held");
+    f.ask(format!("add_keyed 7 {}", w[6]));
+    f.ask("dump");
+    f.label("held 0, 1, 2 less 0 is 2, 1");
+    f.ask("remove_at 7 0");
+    questions(f);
+    f.ask(format!("add_keyed 7 {}", w[7]));
+    f.ask("dump");
+    f.label("single removal: another key's slot, a dead slot, an unkeyed one, one past those in use");
+    f.asks(&["remove_at 8 1", "remove_at 7 0", "remove_at 7 5", "remove_at 7 6", "remove_at 7 ffffffffffffffff", "remove_at 5 0"]);
+    f.label("relabelling: an unknown key, onto a held one, onto itself, of several slots");
+    f.asks(&["relabel 5 6", "relabel 5 5", "relabel 7 8", "relabel 8 7", "relabel 7 7", "relabel 7 0", "relabel 8 7"]);
+    questions(f);
+    f.label("compaction restores rising order");
+    f.asks(&["compact", "dump", "slot_at 0 0", "slot_at 0 1", "compact", "dump"]);
+    f.label("removal of all slots of a key");
+    f.asks(&["remove 0", "remove 0", "remove 5"]);
+    questions(f);
+    f.asks(&["remove_at 7 2", "remove ffffffffffffffff"]);
+    questions(f);
+    f.ask(format!("add_keyed 7 {}", w[8]));
+    f.asks(&["compact", "dump", "remove 7", "compact", "dump"]);
+    f.label("every slot dead, then none in use");
+    f.lend(3, 3);
+    f.ask("new 3 5");
+    f.ask(format!("add_keyed 1 {}", w[9]));
+    f.ask(format!("add_keyed 2 {}", w[10]));
+    f.asks(&["remove 1", "remove 2", "dump", "contains 1", "compact", "dump", "bits 6"]);
+    f.ask(format!("add_keyed 1 {}", w[11]));
+    f.ask("dump");
+}
+
+fn room(f: &mut Fixed) {
+    f.section("room: 8 and what is no 8, for each array that is the shortest");
+    let (w, x) = (nth(2, 1), nth(2, 2));
+    for short in 0..8 {
+        // Three slots, but for one array, which holds two. At 4 bits a slot of dim 2 has one byte.
+        let lengths: Vec<String> = (0..8).map(|i| if i == short { "2".to_string() } else { "3".to_string() }).collect();
+        f.ask(format!("lend {}", lengths.join(" ")));
+        f.ask("residual 2 3");
+        f.ask(format!("add_multi 7 {w}"));
+        f.ask(format!("add_multi 7 {x}"));
+        for call in ["add", "add_keyed 8", "add_multi 7"] {
+            f.told(format!("{call} {w}"), "refused 8");
+        }
+        f.label("an overwrite needs no room");
+        f.ask(format!("add_keyed 7 {w}"));
+    }
+    f.label("residual arrays count only if residual");
+    f.asks(&["lend 2 2 2 2 2 2 0 0", "new 2 3", "bits 4"]);
+    f.ask(format!("add_keyed 7 {w}"));
+    f.ask(format!("add_keyed 8 {x}"));
+    f.told(format!("add {w}"), "refused 8");
+    f.label("places freed by removal serve again after compaction only");
+    f.ask("remove 7");
+    f.told(format!("add {w}"), "refused 8");
+    f.ask("compact");
+    f.ask(format!("add_keyed 9 {w}"));
+    f.ask("dump");
+    f.told(format!("add {w}"), "refused 8");
+    f.label("a width for which there is no room: dim 2 in one byte has a slot at 4 bits and none at 5 or 6");
+    f.asks(&["lend 2 1 1 1 1 1 0 0", "new 2 3", "lend 1 1 1 1 1 1 0 0"]);
+    f.told(format!("add {w}"), "refused 8");
+    f.ask("bits 6");
+    f.told(format!("add {w}"), "refused 8");
+    f.ask("bits 4");
+    f.ask(format!("add {w}"));
+    f.ask("dump");
+}
+
+// ---- the cascade
+
+fn cascade(f: &mut Fixed) {
+    f.section("the cascade: what ends it and what doesn't");
+    let w: Vec<String> = (0..6).map(|number| nth(4, number)).collect();
+    let zero = v(&[0.0; 4]);
+    f.lend(3, 3);
+    f.ask("new 4 9");
+    f.told("enable", "refused 11");
+    f.ask("bits 6");
+    f.told("enable", "refused 11");
+    f.asks(&["bits 4", "enable", "dump", "enable"]);
+    f.label("a refused width call doesn't, an accepted one does (ours)");
+    f.told("bits 3", "refused 5");
+    f.ask("dump");
+    f.told("bits 4", "ok");
+    f.asks(&["dump", "enable"]);
+    f.label("a refused add doesn't, an accepted one does, an overwrite too");
+    f.told(format!("add {zero}"), "refused 2");
+    f.told(format!("add {}", nth(3, 1)), "refused 1");
+    f.ask("dump");
+    for line in [format!("add_keyed 7 {}", w[1]), format!("add_keyed 7 {}", w[2]), format!("add_multi 7 {}", w[3]), format!("add {}", w[4])] {
+        f.ask(line);
+        f.ask("dump");
+        f.ask("enable");
+    }
+    f.told(format!("add {}", w[5]), "refused 8");
+    f.told(format!("add_keyed 7 {zero}"), "refused 2");
+    f.told("bits 4", "refused 6");
+    f.ask("dump");
+    f.label("relabelling, removals and questions don't, nor a compaction that meets no dead slot");
+    f.asks(&["relabel 7 8", "relabel 7 8", "contains 8", "slot_at 8 1", "key_of 0", "compact", "dump", "remove_at 8 0", "dump"]);
+    f.label("a compaction that meets one does");
+    f.asks(&["compact", "dump", "enable", "remove 8", "dump", "compact", "dump"]);
+    f.label("residual");
+    f.ask("residual 4 9");
+    f.asks(&["enable", "dump"]);
+    f.told("bits 4", "ok");
+    f.asks(&["enable", "residual 4 9", "dump"]);
+}
+
+// ---- codes and vectors
+
+fn spare_bits(f: &mut Fixed) {
+    f.section("spare bits: an overwrite keeps them, an append clears them, a compaction moves bytes whole");
+    for (dim, width) in [(1, 4), (1, 5), (1, 6), (2, 5), (2, 6), (3, 5), (4, 5), (2, 4)] {
+        let block = block_size(dim, width);
+        f.lend(3, block.max(block_size(dim, 5)));
+        f.ask(format!("new {dim:x} 2"));
+        f.ask(format!("bits {width:x}"));
+        for byte in 0..3 * block {
+            f.ask(format!("set codes {byte:x} ff"));
+        }
+        f.ask(format!("add_keyed 1 {}", nth(dim, 1)));
+        f.ask(format!("add_keyed 2 {}", nth(dim, 2)));
+        f.ask("dump");
+        f.ask(format!("set codes {:x} ff", 2 * block - 1));
+        f.ask(format!("add_keyed 2 {}", nth(dim, 3)));
+        f.asks(&["dump", "remove 1", "compact", "dump"]);
+        f.ask(format!("add {}", nth(dim, 4)));
+        f.ask("dump");
+    }
+    f.label("the residual's too");
+    f.lend(2, 1);
+    f.ask("residual 1 2");
+    f.asks(&["set codes 0 ff", "set codes2 0 ff", "set codes2 1 ff", "add_keyed 1 3f800000", "dump", "set codes2 0 ff", "add_keyed 1 bf800000", "dump"]);
+    f.label("scales that are NaNs move with their signs and fractions");
+    f.lend(3, 2);
+    f.ask("residual 4 2");
+    f.ask(format!("add_keyed 1 {}", nth(4, 1)));
+    f.ask(format!("add_keyed 2 {}", nth(4, 2)));
+    f.asks(&["set scales 1 ff800001", "set scales2 1 7fffffff", "remove 1"]);
+    f.told("compact", "ok");
+    f.ask("dump");
+}
+
+fn vectors(f: &mut Fixed) {
+    f.section("vectors: what is refused, and neighbours that are not");
+    let inf = f32::INFINITY;
+    f.lend(24, 8);
+    f.ask("working 4 2 3");
+    f.label("past working_dim nothing counts");
+    for past in [f32::NAN, inf, -inf, 1.0e30, 0.0, 2f32.powi(-75)] {
+        f.ask(format!("add {}", v(&[1.0, 2.0, past, past])));
+    }
+    f.label("every pattern of a NaN stands for one");
+    for nan in ["7fc00000", "ffc00000", "7f800001", "ffffffff"] {
+        f.ask(format!("add 3f80000040000000{nan}{nan}"));
+        f.told(format!("add {nan}3f80000000000000{nan}"), "refused 2");
+    }
+    f.label("2: the sum of squares is zero or a NaN");
+    let small = 2f32.powi(-75);
+    for v2 in [[0.0, 0.0], [-0.0, 0.0], [small, 0.0], [small, -small], [f32::from_bits(1), 0.0], [f32::NAN, 1.0], [f32::NAN, inf]] {
+        f.told(format!("add {}", v(&[v2[0], v2[1], 1.0, 1.0])), "refused 2");
+    }
+    f.label("3: it is infinite");
+    for v2 in [[1.0e30, 0.0], [inf, 0.0], [-inf, 1.0], [f32::MAX, 0.0], [1.5e19, 1.5e19], [0.0, 1.85e19]] {
+        f.told(format!("add {}", v(&[v2[0], v2[1], 1.0, f32::NAN])), "refused 3");
+    }
+    f.label("neighbours");
+    for v2 in [[2f32.powi(-74), 0.0], [1.8e19, 0.0], [1.2e19, 1.2e19], [f32::from_bits(0x1a35_04f4), 0.0], [1.0, small], [-1.0, 1.0e-30]] {
+        f.ask(format!("add_keyed 1 {}", v(&[v2[0], v2[1], 0.0, 0.0])));
+    }
+    f.ask("dump");
+    f.label("1: another length");
+    for n in [0, 1, 2, 3, 5, 8, 4097, 17_499] {
+        f.told(format!("add {}", v(&vec![1.0; n])), "refused 1");
+    }
+    f.ask("dump");
+}
+
+fn order(f: &mut Fixed) {
+    f.section("which refusal comes first");
+    f.label("making: 4, then 13");
+    f.ask("lend 0 0 0 0 0 0 0 0");
+    f.told_all(
+        &[
+            "new 0 1", "new 1001 1", "new ffffffffffffffff 1", "working 4 0 1", "working 4 5 1", "working 0 0 1", "working 1001 4 1", "residual 0 1",
+            "residual 1001 1",
+        ],
+        "refused 4",
+    );
+    f.told_all(&["new 1 1", "new 1000 1", "working 4 4 1", "working 1000 1 1", "residual 4 1"], "refused 13");
+    f.label("width: 5, 6, 7");
+    f.lend(1, 2);
+    f.ask("residual 4 1");
+    f.told_all(&["bits 0", "bits 3", "bits 7", "bits ff"], "refused 5");
+    f.told_all(&["bits 5", "bits 6"], "refused 7");
+    f.ask(format!("add_keyed 7 {}", nth(4, 1)));
+    f.told_all(&["bits 3", "bits 7"], "refused 5");
+    f.told_all(&["bits 4", "bits 5", "bits 6"], "refused 6");
+    f.label("dead slots are in use");
+    f.ask("remove 7");
+    f.told_all(&["bits 4", "bits 5"], "refused 6");
+    f.label("add: 1, 2, 3, 8");
+    for call in ["add", "add_keyed 7", "add_keyed 8", "add_multi 7"] {
+        f.told(format!("{call} {}", v(&[0.0; 3])), "refused 1");
+        f.told(format!("{call} {}", v(&[0.0; 4])), "refused 2");
+        f.told(format!("{call} {}", v(&[1.0e30; 4])), "refused 3");
+        f.told(format!("{call} {}", v(&[1.0; 4])), "refused 8");
+    }
+    f.ask("dump");
+    f.label("13 before all");
+    f.ask("field live 1");
+    f.told_all(&["bits 3", "bits 4", "bits 5"], "refused 13");
+    f.told(format!("add {}", v(&[0.0; 3])), "refused 13");
+    f.told(format!("add_keyed 7 {}", v(&[0.0; 4])), "refused 13");
+    f.told(format!("add_multi 7 {}", v(&[1.0e30; 4])), "refused 13");
+    f.told("enable", "refused 13");
+    f.ask("field live 0");
+    f.ask("dump");
+}
+
+// ---- 13
+
+fn making_misfits(f: &mut Fixed) {
+    f.section("13 of making: a lent array holds no slot");
+    // Dim 4: 3 bytes at 5 bits, 2 at 4.
+    f.asks(&["lend 3 1 1 1 1 1 0 0", "new 4 1", "lend 2 1 1 1 1 1 2 1", "residual 4 1", "dump"]);
+    for (lengths, array) in [
+        ("2 1 1 1 1 1 0 0", "codes"),
+        ("3 0 1 1 1 1 0 0", "scales"),
+        ("3 1 0 1 1 1 0 0", "keys"),
+        ("3 1 1 0 1 1 0 0", "keyed"),
+        ("3 1 1 1 0 1 0 0", "held"),
+        ("3 1 1 1 1 0 0 0", "alive"),
+    ] {
+        f.label(&format!("no slot in {array}"));
+        f.ask(format!("lend {lengths}"));
+        f.told_all(&["new 4 2", "working 4 3 2"], "refused 13");
+    }
+    for (lengths, array) in [
+        ("1 1 1 1 1 1 2 1", "codes"),
+        ("2 0 1 1 1 1 2 1", "scales"),
+        ("2 1 0 1 1 1 2 1", "keys"),
+        ("2 1 1 0 1 1 2 1", "keyed"),
+        ("2 1 1 1 0 1 2 1", "held"),
+        ("2 1 1 1 1 0 2 1", "alive"),
+        ("2 1 1 1 1 1 1 1", "codes2"),
+        ("2 1 1 1 1 1 2 0", "scales2"),
+    ] {
+        f.label(&format!("residual, no slot in {array}"));
+        f.ask(format!("lend {lengths}"));
+        f.told("residual 4 2", "refused 13");
+    }
+    f.label("the record stayed");
+    f.ask("lend 2 1 1 1 1 1 2 1");
+    f.ask("dump");
+}
+
+/// Four dead slots in use, so that arrays lent anew, all zeros, fit if they are long enough.
+fn short_arrays(f: &mut Fixed) {
+    let names = ["codes", "scales", "keys", "keyed", "held", "alive", "codes2", "scales2"];
+    for residual in [false, true] {
+        f.section(if residual { "13: a lent array too short for the slots in use, residual" } else { "13: a lent array too short for the slots in use" });
+        f.lend(4, 2);
+        f.ask(if residual { "residual 4 1" } else { "new 4 1" });
+        f.asks(&["bits 4", "field n 4"]);
+        let whole = [8, 4, 4, 4, 4, 4, 8, 4];
+        for short in 0..8 {
+            let mut lengths = whole;
+            lengths[short] -= 1;
+            f.label(&format!("one element fewer in {}", names[short]));
+            f.ask(format!("lend {}", lengths.map(|n| format!("{n:x}")).join(" ")));
+            if short < 6 || residual {
+                for line in some_calls(short) {
+                    f.told(line, "refused 13");
+                }
+            } else {
+                f.label("which counts only if residual");
+                f.asks(&["contains 7", "key_of 3", "remove_at 7 3"]);
+            }
+        }
+        f.label("as long as needed");
+        f.lend(4, 2);
+        f.asks(&["contains 7", "key_of 0", "dump"]);
+        if residual {
+            f.told("compact", "ok");
+        } else {
+            f.ask("compact");
+        }
+        f.ask("dump");
+    }
+    f.label("a poked record as the language prints it");
+    f.asks(&["lend 1 1 1 1 1 1 0 0", "new 1 0", "field n 2"]);
+    f.told(
+        "dump",
+        "record 1 1 0 5 0 2 0 0 codes 00 scales 00000000 keys 0000000000000000 keyed 0 held 00000000 alive 00 codes2 - scales2 -",
+    );
+    f.asks(&[
+        "field dim ffffffffffffffff", "field working_dim 0", "field seed ffffffffffffffff", "field bits ff", "field residual 1", "field live 3",
+        "field cascade 1",
+    ]);
+    f.asks(&["set codes 0 1f", "set scales 0 7f800001", "set keys 0 123456789abcdef", "set keyed 0 1", "set held 0 ffffffff", "set alive 0 80"]);
+    f.told(
+        "dump",
+        "record ffffffffffffffff 0 ffffffffffffffff ff 1 2 3 1 codes 1f scales 7f800001 \
+         keys 0123456789abcdef keyed 1 held ffffffff alive 80 codes2 - scales2 -",
+    );
+    f.told_all(&["contains 0", "compact", "enable", "bits 4"], "refused 13");
+    f.ask("new 1 0");
+    f.ask("dump");
+}
+
+/// What is set, and what it is set back to.
+type Poke<'a> = (&'a str, &'a [&'a str], &'a [&'a str]);
+
+fn misfits(f: &mut Fixed) {
+    f.section("13, clause by clause: four slots in use, key 7 on 0 and 2, 1 dead, 3 unkeyed; each is set, calls are refused, and it is set back");
+    let base = |f: &mut Fixed, making: &str| {
+        f.lend(6, 3);
+        f.asks(&[making, "bits 4"]);
+        f.ask(format!("add_multi 7 {}", nth(4, 1)));
+        f.ask(format!("add_keyed 8 {}", nth(4, 2)));
+        f.ask(format!("add_multi 7 {}", nth(4, 3)));
+        f.ask(format!("add {}", nth(4, 4)));
+        f.asks(&["remove 8", "dump"]);
+    };
+    let run = |f: &mut Fixed, turn: usize, (what, set, back): &Poke| {
+        f.label(what);
+        f.asks(set);
+        for line in some_calls(turn) {
+            f.told(line, "refused 13");
+        }
+        f.asks(back);
+        f.ask("dump");
+    };
+    base(f, "new 4 1");
+    let cases: &[Poke] = &[
+        ("dim 0", &["field dim 0"], &["field dim 4"]),
+        ("dim 4,097", &["field dim 1001"], &["field dim 4"]),
+        ("dim below working_dim", &["field dim 3"], &["field dim 4"]),
+        ("working_dim 0", &["field working_dim 0"], &["field working_dim 4"]),
+        ("working_dim over dim", &["field working_dim 5"], &["field working_dim 4"]),
+        ("working_dim 2^64 - 1", &["field working_dim ffffffffffffffff"], &["field working_dim 4"]),
+        ("width 3", &["field bits 3"], &["field bits 4"]),
+        ("width 7", &["field bits 7"], &["field bits 4"]),
+        ("width 0", &["field bits 0"], &["field bits 4"]),
+        ("a residual record of width 5", &["field bits 5", "field residual 1"], &["field residual 0", "field bits 4"]),
+        ("a residual record of width 6", &["field bits 6", "field residual 1"], &["field residual 0", "field bits 4"]),
+        ("more slots in use than the arrays hold", &["field n 7"], &["field n 4"]),
+        ("over 65,536 slots in use", &["field n 10001"], &["field n 4"]),
+        ("2^64 - 1 slots in use", &["field n ffffffffffffffff"], &["field n 4"]),
+        ("a live mark of 2", &["set alive 0 2"], &["set alive 0 1"]),
+        ("a live mark of 255", &["set alive 3 ff"], &["set alive 3 1"]),
+        ("a live mark of 2 on the dead slot", &["set alive 1 2"], &["set alive 1 0"]),
+        ("a live count too high", &["field live 4"], &["field live 3"]),
+        ("a live count too low", &["field live 2"], &["field live 3"]),
+        ("a live count of 2^64 - 1", &["field live ffffffffffffffff"], &["field live 3"]),
+        ("a live mark more", &["set alive 1 1"], &["set alive 1 0"]),
+        ("a live mark less", &["set alive 3 0"], &["set alive 3 1"]),
+        ("slots in use fewer than the live count says", &["field n 3"], &["field n 4"]),
+        ("a key on a dead slot", &["set keyed 1 1"], &["set keyed 1 0"]),
+        ("a key on a slot that died", &["set alive 0 0", "field live 2"], &["set alive 0 1", "field live 3"]),
+        ("positions 0 and 0", &["set held 2 0"], &["set held 2 1"]),
+        ("positions 0 and 2", &["set held 2 2"], &["set held 2 1"]),
+        ("positions 1 and 1", &["set held 0 1"], &["set held 0 0"]),
+        ("positions 1 and 2", &["set held 0 2"], &["set held 0 0"]),
+        ("a position of 2^32 - 1", &["set held 2 ffffffff"], &["set held 2 1"]),
+        ("a key alone, at position 1", &["set keys 2 9"], &["set keys 2 7"]),
+        ("a key's second slot without the first", &["set keyed 0 0"], &["set keyed 0 1"]),
+        ("an unkeyed slot with held 1", &["set held 3 1"], &["set held 3 0"]),
+        ("a dead slot with held 1", &["set held 1 1"], &["set held 1 0"]),
+        ("a third slot at position 0", &["set keys 3 7", "set keyed 3 1"], &["set keyed 3 0", "set keys 3 0"]),
+    ];
+    cases.iter().enumerate().for_each(|(turn, case)| run(f, turn, case));
+    f.section("13, a residual record's clauses");
+    base(f, "residual 4 1");
+    let cases: &[Poke] = &[
+        ("width 5", &["field bits 5"], &["field bits 4"]),
+        ("width 6", &["field bits 6"], &["field bits 4"]),
+        ("positions 0 and 0", &["set held 2 0"], &["set held 2 1"]),
+    ];
+    cases.iter().enumerate().for_each(|(turn, case)| run(f, turn, case));
+}
+
+fn no_misfits(f: &mut Fixed) {
+    f.section("what is no misfit");
+    f.lend(5, 3);
+    f.asks(&["new 4 1", "bits 4"]);
+    f.ask(format!("add_multi 7 {}", nth(4, 1)));
+    f.ask(format!("add_keyed 8 {}", nth(4, 2)));
+    f.ask(format!("add_multi 7 {}", nth(4, 3)));
+    f.ask(format!("add {}", nth(4, 4)));
+    f.label("marks, keys and positions past the slots in use");
+    f.asks(&["set alive 4 2", "set keyed 4 1", "set keys 4 7", "set held 4 9", "contains 7", "slot_at 7 2", "key_of 4", "remove_at 7 4", "dump"]);
+    f.ask(format!("add {}", nth(4, 5)));
+    f.ask("dump");
+    f.label("the word of an unkeyed or a dead slot");
+    f.asks(&["remove 8", "set keys 1 7", "set keys 3 7", "contains 7", "key_of 1", "key_of 3", "slot_at 7 2", "dump", "relabel 7 9", "dump", "relabel 9 7"]);
+    f.label("positions 1 and 0: the held order is slot 2, then 0");
+    f.asks(&["set held 0 1", "set held 2 0", "slot_at 7 0", "slot_at 7 1"]);
+    f.ask(format!("add_keyed 7 {}", nth(4, 6)));
+    f.asks(&["dump", "compact", "dump"]);
+    f.label("the same with nothing dead: document 01, compact restores rising order");
+    f.asks(&["set held 0 1", "set held 1 0", "slot_at 7 0"]);
+    f.told("compact", "ok");
+    f.asks(&["slot_at 7 0", "dump"]);
+    f.label("a key split in two");
+    f.asks(&["set held 1 0", "set keys 1 9", "slot_at 9 0", "slot_at 7 0", "relabel 9 7", "dump"]);
+    f.label("the cascade set at 5 bits");
+    f.asks(&["new 4 1", "field cascade 1", "contains 7", "dump"]);
+    f.told("enable", "refused 11");
+    f.told("bits 6", "ok");
+    f.asks(&["dump", "field cascade 1"]);
+    f.ask(format!("add {}", nth(4, 1)));
+    f.ask("dump");
+    f.label("any seed");
+    f.asks(&["new 4 1", "field seed 0"]);
+    f.ask(format!("add {}", nth(4, 1)));
+    f.ask("dump");
+    f.label("residual set on a record of 4 bits, with arrays for it; working_dim below dim then");
+    f.asks(&["new 4 1", "bits 4", "field residual 1", "field working_dim 3"]);
+    f.ask(format!("add_keyed 7 {}", nth(4, 1)));
+    f.ask(format!("add_keyed 7 {}", nth(4, 2)));
+    f.told("bits 5", "refused 6");
+    f.ask("dump");
+    f.label("arrays lent anew under an empty index keep the record");
+    f.ask("new 4 7");
+    f.lend(1, 3);
+    f.ask("dump");
+    f.ask(format!("add_multi 7 {}", nth(4, 1)));
+    f.told(format!("add_multi 7 {}", nth(4, 2)), "refused 8");
+    f.ask("dump");
+}
+
+// ---- histories
+
+/// Random calls, of which those outside the comparison are left out.
+fn histories(f: &mut Fixed) {
+    f.section("random calls inside the comparison, few keys");
+    for (number, making) in ["new 5 3", "working 9 6 4", "residual 3 5", "residual 8 6", "new 10 0"].iter().enumerate() {
+        let mut random = Random::new(40 + number as u64);
+        f.lend(6, 20);
+        f.ask(*making);
+        if number == 4 {
+            f.ask("bits 6");
+        }
+        let mut lines = 0;
+        while lines < 50 {
+            let dim = f.driver.record.dim;
+            let w = nth(dim, random.below(9));
+            let (key, other) = (random.below(3), random.below(4));
+            let slot = random.below(7);
+            let line = match random.below(14) {
+                0 => format!("add {w}"),
+                1 | 2 => format!("add_keyed {key:x} {w}"),
+                3..=5 => format!("add_multi {key:x} {w}"),
+                6 => format!("relabel {key:x} {other:x}"),
+                7 => format!("remove {key:x}"),
+                8 | 9 => format!("remove_at {key:x} {slot:x}"),
+                10 => format!("slot_at {key:x} {:x}", random.below(3)),
+                11 => format!("key_of {slot:x}"),
+                12 => "compact".to_string(),
+                _ => "dump".to_string(),
+            };
+            if let Answer::Rust(_) = f.driver.clone().answer(line.as_bytes()) {
+                f.ask(line);
+                lines += 1;
+            }
+        }
+        f.ask("dump");
+    }
+}
+
+// ---- the language
+
+fn unreadable(f: &mut Fixed) {
+    f.section("lines that can't be read change nothing");
+    f.lend(2, 3);
+    f.ask("new 4 1");
+    let w = nth(4, 1);
+    f.ask(format!("add_keyed 7 {w}"));
+    f.told_all(
+        &[
+            "foo", "Add 3f800000", "add", "add ", "add  -", " dump", "dump ", "dump 0", "dump\t", "compact 1", "enable 1", "bits", "bits 4 4", "bits 04",
+            "bits 100", "bits -", "bits 4\r", "new", "new 4", "new 4 1 1", "new 04 1", "new 4 01", "new g 1", "new 4 G", "new 10000000000000000 1",
+            "new 4 10000000000000000", "working 4 4", "working 4 4 1 1", "residual 4", "residual 4 1 1", "contains", "contains 7 7", "contains A",
+            "contains 0x7", "contains +7", "contains -7", "contains 00", "contains  7", "contains 7 ", "contains 10000000000000000",
+            "contains 00000000000000007", "key_of", "key_of 0 0", "slot_at 7", "slot_at 7 0 0", "relabel 7", "relabel 7 8 9", "relabel 7  8", "remove",
+            "remove 7 0", "remove_at 7", "remove_at 7 0 0", "add_keyed 7", "add_multi 7", "add_keyed - 3f800000", "add 3f80000", "add 3f8000000",
+            "add 3F800000", "add 3f800000 3f800000", "add 3f800000-", "add -3f80000", "add --", "add 3f80000g", "add_keyed 7 7 3f800000", "lend",
+            "lend 1 1 1 1 1 1 1", "lend 1 1 1 1 1 1 1 1 1", "lend 100001 1 1 1 1 1 1 1", "lend 1 1001 1 1 1 1 1 1", "lend 1 1 1001 1 1 1 1 1",
+            "lend 1 1 1 1001 1 1 1 1", "lend 1 1 1 1 1001 1 1 1", "lend 1 1 1 1 1 1001 1 1", "lend 1 1 1 1 1 1 100001 1", "lend 1 1 1 1 1 1 1 1001",
+            "lend - 1 1 1 1 1 1 1", "lend 01 1 1 1 1 1 1 1", "set", "set codes 0", "set codes 0 0 0", "set code 0 0", "set codes 6 0", "set scales 2 0",
+            "set keys 2 0", "set keyed 2 0", "set held 2 0", "set alive 2 0", "set codes2 6 0", "set scales2 2 0", "set codes ffffffffffffffff 0",
+            "set codes 0 100", "set scales 0 100000000", "set keys 0 10000000000000000", "set keyed 0 2", "set held 0 100000000", "set alive 0 100",
+            "set codes2 0 100", "set scales2 0 100000000", "set codes 0 -", "field", "field dim", "field dim 4 4", "field width 4",
+            "field dim 10000000000000000", "field working_dim 04", "field seed 10000000000000000", "field bits 100", "field residual 2", "field n -1",
+            "field live 10000000000000000", "field cascade 2", "field Dim 4",
+        ],
+        "?",
+    );
+    f.label("nothing changed");
+    f.ask("dump");
+    f.label("the largest that each takes");
+    f.asks(&[
+        "set codes 5 ff", "set scales 1 ffffffff", "set keys 1 ffffffffffffffff", "set keyed 1 1", "set held 1 ffffffff", "set alive 1 ff",
+        "set codes2 5 ff", "set scales2 1 ffffffff",
+    ]);
+    f.asks(&["dump", "contains ffffffffffffffff"]);
+    f.label("the longest line that is read, and one byte more");
+    let longest = v(&vec![1.0; 17_498]);
+    f.told(format!("add_keyed 12345 {longest}"), "refused 1");
+    f.told(format!("add_keyed 123456 {longest}"), "?");
+    f.label("all that the program holds");
+    f.asks(&["lend 100000 1000 1000 1000 1000 1000 100000 1000", "new 1000 1"]);
+    f.ask("lend 0 0 0 0 0 0 0 0");
+    f.ask("dump");
+    f.label("empty lines and comments");
+    f.told("", "");
+    f.told("", "");
+    f.told("#", "");
+    f.told("#dump", "");
+    f.told("# caf\u{e9}", "");
+    f.label("the last line, without its newline");
+    f.ask("contains 7");
+}
