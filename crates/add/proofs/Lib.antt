@@ -1,0 +1,5 @@
+-- Laws of adding.
+mod Blocks
+mod Append
+mod Overwrite
+mod Keyed

@@ -1,0 +1,2 @@
+-- Adding.
+pub mod Scanned

@@ -1,0 +1,137 @@
+// Adding a vector: `add`, `add_keyed` and `add_keyed_multi` of vecq's store.rs.
+ghost use mathlib.Core.Path.{_≡_};
+ghost use Rattle.index.specs.Arrays.{lent};
+ghost use Rattle.index.specs.Step as Step;
+ghost use Rattle.index.specs.Call.{call};
+ghost use Rattle.index.specs.Answers.{added};
+ghost use Rattle.add.specs.Scanned.{scanned};
+use index::Added;
+use index::Index;
+
+// How many slots are scanned for a key: those in use, and none of a record that counts more than an index can have. It is refused by 13, and not after a scan without end.
+fn slots_to_scan(n: usize) -> usize
+    ensures { λ r. ⌜ r ≡ scanned n ⌝ }
+{
+    if 65536 < n {
+        return 0;
+    }
+    n
+}
+
+// Appends a slot without a key.
+pub fn add(
+    index: Index,
+    codes: &mut [u8],
+    scales: &mut [u32],
+    keys: &mut [u64],
+    keyed: &mut [bool],
+    held: &mut [u32],
+    alive: &mut [u8],
+    codes2: &mut [u8],
+    scales2: &mut [u32],
+    vector: &[f32],
+) -> Added
+    ensures { λ r. ⌜ added index r (lent (codes .exit) (scales .exit) (keys .exit) (keyed .exit) (held .exit) (alive .exit) (codes2 .exit) (scales2 .exit)) ≡ call index (lent (codes .entry) (scales .entry) (keys .entry) (keyed .entry) (held .entry) (alive .entry) (codes2 .entry) (scales2 .entry)) (Step.add (now (vector .entry))) ⌝ }
+{
+    // the word that stands for no key
+    let key = 0;
+    place::append(
+        index,
+        codes,
+        scales,
+        keys,
+        keyed,
+        held,
+        alive,
+        codes2,
+        scales2,
+        key,
+        false,
+        0,
+        vector,
+    )
+}
+
+// Overwrites the first held slot of the key, or appends one where the key has none.
+pub fn add_keyed(
+    index: Index,
+    codes: &mut [u8],
+    scales: &mut [u32],
+    keys: &mut [u64],
+    keyed: &mut [bool],
+    held: &mut [u32],
+    alive: &mut [u8],
+    codes2: &mut [u8],
+    scales2: &mut [u32],
+    key: u64,
+    vector: &[f32],
+) -> Added
+    ensures { λ r. ⌜ added index r (lent (codes .exit) (scales .exit) (keys .exit) (keyed .exit) (held .exit) (alive .exit) (codes2 .exit) (scales2 .exit)) ≡ call index (lent (codes .entry) (scales .entry) (keys .entry) (keyed .entry) (held .entry) (alive .entry) (codes2 .entry) (scales2 .entry)) (Step.addKeyed key (now (vector .entry))) ⌝ }
+{
+    let n = slots_to_scan(index.n);
+    let slot = held::held_slot(keys, keyed, held, n, key, 0);
+    if slot < n {
+        return place::overwrite(
+            index,
+            codes,
+            scales,
+            keys,
+            keyed,
+            held,
+            alive,
+            codes2,
+            scales2,
+            slot,
+            vector,
+        );
+    }
+    place::append(
+        index,
+        codes,
+        scales,
+        keys,
+        keyed,
+        held,
+        alive,
+        codes2,
+        scales2,
+        key,
+        true,
+        0,
+        vector,
+    )
+}
+
+// Appends a slot to those that the key has: it is the last one in held order.
+pub fn add_keyed_multi(
+    index: Index,
+    codes: &mut [u8],
+    scales: &mut [u32],
+    keys: &mut [u64],
+    keyed: &mut [bool],
+    held: &mut [u32],
+    alive: &mut [u8],
+    codes2: &mut [u8],
+    scales2: &mut [u32],
+    key: u64,
+    vector: &[f32],
+) -> Added
+    ensures { λ r. ⌜ added index r (lent (codes .exit) (scales .exit) (keys .exit) (keyed .exit) (held .exit) (alive .exit) (codes2 .exit) (scales2 .exit)) ≡ call index (lent (codes .entry) (scales .entry) (keys .entry) (keyed .entry) (held .entry) (alive .entry) (codes2 .entry) (scales2 .entry)) (Step.addMulti key (now (vector .entry))) ⌝ }
+{
+    let count = held::held_count(keys, keyed, slots_to_scan(index.n), key);
+    place::append(
+        index,
+        codes,
+        scales,
+        keys,
+        keyed,
+        held,
+        alive,
+        codes2,
+        scales2,
+        key,
+        true,
+        count as u32,
+        vector,
+    )
+}

@@ -1,0 +1,5 @@
+-- Laws of compaction.
+mod Gathering
+mod Rising
+mod Kept
+mod Arrays

@@ -1,0 +1,186 @@
+-- `compact::compact` meets its contract.
+use mathlib.Core.Path.{sym, ap, _∙_}
+use native.Mathlib.Omega.{arith}
+use borrow.Author.Needs.{needs}
+use Rattle.index.specs.Arrays.{Arrays, lent}
+use Rattle.index.specs.Step as Step
+use Rattle.index.proofs.Calls.{call-misfit}
+use Rattle.compact.specs.Gathered.{withKept}
+use Rattle.compact.proofs.Arrays.{few-slots, whole-size, first-room, marks-room, second-room, closed-up, compacted-call}
+use Rattle.compact.proofs.compact.Statement.{statement}
+use Rattle.compact.proofs.compact.Tie as tie
+
+abbrev arrays : tie.Start → Arrays
+arrays s = lent (s .args .codes) (s .args .scales) (s .args .keys) (s .args .keyed) (s .args .held) (s .args .alive) (s .args .codes2) (s .args .scales2)
+
+fits-requires : tie.Need-fits-requires
+fits-requires c κs = search needs
+
+places-requires : tie.Need-places-requires
+places-requires c κs = search needs
+
+slice-aggregate-live-slots : tie.Need-slice-aggregate-live-slots
+slice-aggregate-live-slots c = search needs
+
+live-slots-requires : tie.Need-live-slots-requires
+live-slots-requires c κs =
+    let s = c .before .before .before .before .before .before .before .before .before .before .before .before .before .before .before .before .before .before .before .before .before in omega (arith, c .before .before .places .ok, few-slots (s .args .index) (arrays s) (sym (c .before .before .before .before .fits2 .ensures) ∙ c .before .before .before .if1 .taken))
+
+block-size-requires : tie.Need-block-size-requires
+block-size-requires c κs = search needs
+
+slice-aggregate-gather-stage : tie.Need-slice-aggregate-gather-stage
+slice-aggregate-gather-stage c = search needs
+
+gather-stage-requires : tie.Need-gather-stage-requires
+gather-stage-requires c κs =
+    let s = c .before .before .before .before .before .before .before .before .before .before .before .before .before .before .before .before .before .before .before .before .before .before .before .before .before .before .before in
+    let e = sym (c .before .before .before .before .before .before .before .before .before .before .fits2 .ensures) ∙ c .before .before .before .before .before .before .before .before .before .if1 .taken in
+    let v = c .before .before .before .before .before .live-slots in
+    let p = c .before .before .before .before .before .before .before .before .places in
+    let w = whole-size (s .args .index) (arrays s) e _ (c .before .before .before .block-size .ensures) in
+    first-room (s .args .index) (arrays s) e (p .result) _ _ (omega (arith, p .ok, few-slots (s .args .index) (arrays s) e)) (v .ensures .1) (v .ensures .0) _ w
+
+slice-aggregate-gather-marks : tie.Need-slice-aggregate-gather-marks
+slice-aggregate-gather-marks c = search needs
+
+gather-marks-requires : tie.Need-gather-marks-requires
+gather-marks-requires c κs =
+    let s = c .before .before .before .before .before .before .before .before .before .before .before .before .before .before .before .before .before .before .before .before .before .before .before .before .before .before .before .before .before .before .before .before .before .before .before .before .before in
+    let e = sym (c .before .before .before .before .before .before .before .before .before .before .before .before .before .before .before .before .before .before .before .before .fits2 .ensures) ∙ c .before .before .before .before .before .before .before .before .before .before .before .before .before .before .before .before .before .before .before .if1 .taken in
+    let v = c .before .before .before .before .before .before .before .before .before .before .before .before .before .before .before .live-slots in
+    let p = c .before .before .before .before .before .before .before .before .before .before .before .before .before .before .before .before .before .before .places in
+    marks-room (s .args .index) (arrays s) e (p .result) _ _ (omega (arith, p .ok, few-slots (s .args .index) (arrays s) e)) (v .ensures .1) (v .ensures .0)
+
+slice-aggregate-gather-stage-2 : tie.Need-slice-aggregate-gather-stage-2
+slice-aggregate-gather-stage-2 c = search needs
+
+second-stages-requires : tie.Need-second-stages-requires
+second-stages-requires c κs = search needs
+
+gather-stage-requires-2 : tie.Need-gather-stage-requires-2
+gather-stage-requires-2 c κs =
+    let s = c .before .before .before .before .before .before .before .before .before .before .before .before .before .before .before .before .before .before .before .before .before .before .before .before .before .before .before .before .before .before .before .before .before .before .before .before .before .before .before .before .before .before .before .before .before .before .before .before .before .before in
+    let e = sym (c .before .before .before .before .before .before .before .before .before .before .before .before .before .before .before .before .before .before .before .before .before .before .before .before .before .before .before .before .before .before .before .before .before .fits2 .ensures) ∙ c .before .before .before .before .before .before .before .before .before .before .before .before .before .before .before .before .before .before .before .before .before .before .before .before .before .before .before .before .before .before .before .before .if1 .taken in
+    let v = c .before .before .before .before .before .before .before .before .before .before .before .before .before .before .before .before .before .before .before .before .before .before .before .before .before .before .before .before .live-slots in
+    let p = c .before .before .before .before .before .before .before .before .before .before .before .before .before .before .before .before .before .before .before .before .before .before .before .before .before .before .before .before .before .before .before .places in
+    let w = whole-size (s .args .index) (arrays s) e _ (c .before .before .before .before .before .before .before .before .before .before .before .before .before .before .before .before .before .before .before .before .before .before .before .before .before .before .block-size .ensures) in
+    second-room (s .args .index) (arrays s) e (p .result) _ _ (omega (arith, p .ok, few-slots (s .args .index) (arrays s) e)) (v .ensures .1) (v .ensures .0) _ _ w (c .second-stages .ensures)
+
+with-kept-requires : tie.Need-with-kept-requires
+with-kept-requires c κs = search needs
+
+same-length : tie.Need-same-length
+same-length c = search needs
+
+same-length-2 : tie.Need-same-length-2
+same-length-2 c = search needs
+
+same-length-3 : tie.Need-same-length-3
+same-length-3 c = search needs
+
+same-length-4 : tie.Need-same-length-4
+same-length-4 c = search needs
+
+same-length-5 : tie.Need-same-length-5
+same-length-5 c = search needs
+
+same-length-6 : tie.Need-same-length-6
+same-length-6 c = search needs
+
+same-length-7 : tie.Need-same-length-7
+same-length-7 c = search needs
+
+same-length-8 : tie.Need-same-length-8
+same-length-8 c = search needs
+
+returns : tie.Need-returns
+returns c =
+    let s = c .before .before .before .before .before .before .before .before .before .before .before .before .before .before .before .before .before .before .before .before .before .before .before .before .before .before .before .before .before .before .before .before .before .before .before .before .before .before .before .before .before .before .before .before .before .before .before .before .before .before .before .before .before .before .before .before in
+    let e = sym (c .before .before .before .before .before .before .before .before .before .before .before .before .before .before .before .before .before .before .before .before .before .before .before .before .before .before .before .before .before .before .before .before .before .before .before .before .before .before .before .fits2 .ensures) ∙ c .before .before .before .before .before .before .before .before .before .before .before .before .before .before .before .before .before .before .before .before .before .before .before .before .before .before .before .before .before .before .before .before .before .before .before .before .before .before .if1 .taken in
+    let v = c .before .before .before .before .before .before .before .before .before .before .before .before .before .before .before .before .before .before .before .before .before .before .before .before .before .before .before .before .before .before .before .before .before .before .live-slots in
+    let p = c .before .before .before .before .before .before .before .before .before .before .before .before .before .before .before .before .before .before .before .before .before .before .before .before .before .before .before .before .before .before .before .before .before .before .before .before .before .places in
+    let w = whole-size (s .args .index) (arrays s) e _ (c .before .before .before .before .before .before .before .before .before .before .before .before .before .before .before .before .before .before .before .before .before .before .before .before .before .before .before .before .before .before .before .before .block-size .ensures) in
+    let first = c .before .before .before .before .before .before .before .before .before .before .before .before .before .before .before .before .before .before .before .before .before .before .before .before .before .before .before .before .gather-stage .ensures in
+    let marks = c .before .before .before .before .before .before .before .before .before .before .before .before .before .before .before .before .before .before .gather-marks .ensures in
+    let second = c .before .before .before .before .before .gather-stage2 .ensures in
+    compacted-call (s .args .index) (arrays s) e _ _ (c .with-kept .ensures ∙ ap (withKept (s .args .index)) (v .ensures .0))
+    (closed-up (s .args .index) (arrays s) e _ (p .result) _ _ _ _ (omega (arith, p .ok, few-slots (s .args .index) (arrays s) e))
+    (record {
+      listed = v .ensures .1;
+      many = v .ensures .0;
+      size-is = w;
+      second-is = c .before .before .before .before .before .before .second-stages .ensures;
+      codes = first .0;
+      scales = first .1;
+      keys = marks .0;
+      keyed = marks .1 .0;
+      held = marks .1 .1 .0;
+      alive = marks .1 .1 .1;
+      codes2 = second .0;
+      scales2 = second .1;
+    }))
+
+same-length-9 : tie.Need-same-length-9
+same-length-9 c = search needs
+
+same-length-10 : tie.Need-same-length-10
+same-length-10 c = search needs
+
+same-length-11 : tie.Need-same-length-11
+same-length-11 c = search needs
+
+same-length-12 : tie.Need-same-length-12
+same-length-12 c = search needs
+
+same-length-13 : tie.Need-same-length-13
+same-length-13 c = search needs
+
+same-length-14 : tie.Need-same-length-14
+same-length-14 c = search needs
+
+same-length-15 : tie.Need-same-length-15
+same-length-15 c = search needs
+
+same-length-16 : tie.Need-same-length-16
+same-length-16 c = search needs
+
+returns-2 : tie.Need-returns-2
+returns-2 c =
+    let s = c .before .before .before .before .before .before .before .before .before .before .before .before .before .before .before .before .before .before in sym (call-misfit (s .args .index) (arrays s) Step.compact (sym (c .before .fits2 .ensures) ∙ c .if1 .left))
+
+pub compact-spec : {M : Type 1} → statement M
+compact-spec =
+    tie.close
+    (tie.spec
+    fits-requires
+    places-requires
+    slice-aggregate-live-slots
+    live-slots-requires
+    block-size-requires
+    slice-aggregate-gather-stage
+    gather-stage-requires
+    slice-aggregate-gather-marks
+    gather-marks-requires
+    slice-aggregate-gather-stage-2
+    second-stages-requires
+    gather-stage-requires-2
+    with-kept-requires
+    same-length
+    same-length-2
+    same-length-3
+    same-length-4
+    same-length-5
+    same-length-6
+    same-length-7
+    same-length-8
+    returns
+    same-length-9
+    same-length-10
+    same-length-11
+    same-length-12
+    same-length-13
+    same-length-14
+    same-length-15
+    same-length-16
+    returns-2)

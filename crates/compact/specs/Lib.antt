@@ -1,0 +1,2 @@
+-- What a compaction does to each lent array.
+pub mod Gathered

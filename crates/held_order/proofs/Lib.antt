@@ -1,0 +1,3 @@
+-- Laws of rising held order.
+pub mod Writing
+mod Chains

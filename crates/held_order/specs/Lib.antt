@@ -1,0 +1,3 @@
+-- Rising held order.
+pub mod Restored
+pub mod Chains

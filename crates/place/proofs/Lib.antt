@@ -1,0 +1,3 @@
+-- Laws of one slot written.
+mod Codes
+pub mod Calls

@@ -1,0 +1,2 @@
+-- What writing one slot does.
+pub mod Place
