@@ -35,7 +35,7 @@ module _ (h : Header) where
   over-block gs g xs sized =
       let bs = map (λ (e : Stage). e .block) gs in
       let n : length (joined bs) ≡ length gs * blockSize h =
-          length-joined (blockSize h) bs (each-map (λ b. length b ≡ blockSize h) (λ e. e .block) gs sized) ∙ ap (λ (m : ℕ). m * blockSize h) (length-map gs (λ e. e .block)) in
+      length-joined (blockSize h) bs (each-map (λ b. length b ≡ blockSize h) (λ e. e .block) gs sized) ∙ ap (λ (m : ℕ). m * blockSize h) (length-map gs (λ e. e .block)) in
       ap (λ zs. over zs xs) (ap joined (map-append (λ (e : Stage). e .block) gs (g ∷ [])) ∙ joined-append bs (g .block ∷ []) ∙ ap (λ zs. joined bs ++ zs) (append-nil (g .block)))
       ∙ over-append (joined bs) (g .block) xs ∙ ap (λ (m : ℕ). splice m (g .block) (over (joined bs) xs)) n
 

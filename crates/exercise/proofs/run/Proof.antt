@@ -39,8 +39,7 @@ loop-less c =
 loop-again : tie.Need-loop-again Inv-loop μ-loop
 loop-again c =
     let call = c .before .before .before .before .before .before .before .before .before .before .before .before .before .before .before .before .before .before .before .before in
-    let loop = call .before .before .before .before .before .before .before .before .before .before .before .before .before in
-    (
+    let loop = call .before .before .before .before .before .before .before .before .before .before .before .before .before in (
       call .turn .kept .0 ∙ loop .loop .inv .0,
       call .turn .kept .1 .0 ∙ loop .loop .inv .1,
       call .turn .kept .1 .1 .0 ∙ loop .loop .inv .2,
