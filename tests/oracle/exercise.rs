@@ -77,6 +77,7 @@ pub fn list() -> List {
     cascade(&mut fixed);
     spare_bits(&mut fixed);
     vectors(&mut fixed);
+    scores(&mut fixed);
     order(&mut fixed);
     making_misfits(&mut fixed);
     short_arrays(&mut fixed);
@@ -433,6 +434,75 @@ fn vectors(f: &mut Fixed) {
     }
     f.ask("dump");
 }
+
+// ---- scores
+
+/// Three slots, the one in the middle dead, each scored by two queries. `outside` is the answer where the Rust has none.
+fn scored(f: &mut Fixed, dim: usize, making: &str, width: u8, outside: Option<&str>) {
+    f.asks(&[making, &format!("bits {width:x}")]);
+    f.ask(format!("add {}", nth(dim, 1)));
+    f.ask(format!("add_keyed 7 {}", nth(dim, 2)));
+    f.ask(format!("add_keyed 8 {}", nth(dim, 3)));
+    f.ask("remove 7");
+    for slot in 0..3 {
+        for query in [1, 4] {
+            let line = format!("score {slot} {}", nth(dim, query));
+            match outside {
+                Some(answer) => f.told(line, answer),
+                None => f.ask(line),
+            }
+        }
+    }
+}
+
+fn scores(f: &mut Fixed) {
+    f.section("score: live and dead slots, dims 1 to 17, each width and the residual");
+    for dim in 1..=17 {
+        f.lend(3, block_size(dim, 6));
+        for width in [4, 5, 6] {
+            // 10, document 01's example: dim 1 at 4 bits.
+            let tiny = (dim == 1 && width == 4).then_some("refused 10");
+            scored(f, dim, &format!("new {dim:x} {:x}", 17 * dim), width, tiny);
+        }
+        scored(f, dim, &format!("residual {dim:x} {:x}", 19 * dim), 4, (dim == 1).then_some("refused 10"));
+    }
+    f.section("score: what is refused, and in which order");
+    let w = nth(4, 1);
+    f.lend(3, 4);
+    f.ask("new 4 1");
+    f.label("9: slot 3 of 3, and slots past that");
+    for number in 1..=3 {
+        f.ask(format!("add {}", nth(4, number)));
+    }
+    f.told_all(&[&format!("score 3 {w}"), &format!("score 4 {w}"), &format!("score ffffffffffffffff {w}")], "refused 9");
+    f.label("1, 2, 3, before 9");
+    for slot in [0, 3] {
+        f.told(format!("score {slot} {}", v(&[1.0, 2.0, 3.0])), "refused 1");
+        f.told(format!("score {slot} -"), "refused 1");
+        f.told(format!("score {slot} {}", v(&[0.0; 4])), "refused 2");
+        f.told(format!("score {slot} {}", v(&[f32::NAN, 0.0, 0.0, 0.0])), "refused 2");
+        f.told(format!("score {slot} {}", v(&[1.0e30, 0.0, 0.0, 0.0])), "refused 3");
+    }
+    f.label("12: the scale a NaN; other scales are scored");
+    for scale in ["7fc00000", "ff800001"] {
+        f.ask(format!("set scales 0 {scale}"));
+        f.told(format!("score 0 {w}"), "refused 12");
+    }
+    for scale in ["0", "80000000", "7f800000", "3f800000"] {
+        f.ask(format!("set scales 0 {scale}"));
+        f.ask(format!("score 0 {w}"));
+    }
+    f.label("13 before all");
+    f.ask("field live 2");
+    f.told(format!("score 3 {}", v(&[1.0])), "refused 13");
+    f.label("9 before 10");
+    f.lend(3, 4);
+    f.asks(&["new 1 1", "bits 4", "add 40400000"]);
+    f.told("score 0 3f800000", "refused 10");
+    f.told("score 1 3f800000", "refused 9");
+    f.told_all(&["score", "score 0", "score 3f800000", "score 0 3f800000 3f800000", "score 00 3f800000", "score 0 3f80000"], "?");
+}
+
 
 fn order(f: &mut Fixed) {
     f.section("which refusal comes first");

@@ -532,6 +532,10 @@ impl<W: Write> Script<W> {
 
     fn spoil(&mut self, file: &mut Vec<u8>) {
         let length = file.len();
+        if length < 24 {
+            // Cut already.
+            return;
+        }
         match self.below(10) {
             0 => file.truncate(self.below(length)),
             1 => file.truncate(length - 1 - self.below(16)),

@@ -7,6 +7,7 @@
 //   add VEC, add_keyed KEY VEC, add_multi KEY VEC
 //   relabel OLD NEW, remove KEY, remove_at KEY SLOT
 //   key_of SLOT, contains KEY, slot_at KEY POSITION
+//   score SLOT VEC
 //   dump                                                     the record and the arrays
 ghost use Prim.Native.Nat.{_-_, _≤_};
 use index::Added;
@@ -17,6 +18,7 @@ use index::Index;
 use index::Keyed;
 use index::Made;
 use lines::Cursor;
+use score::Scored;
 use text::Number;
 
 // ---- the program's arrays
@@ -342,13 +344,13 @@ fn lend_last(
     )
 }
 
-// The number of a line's command; 19 where there is no such command, or the line is too long to be read, and 20 where nothing is asked.
+// The number of a line's command; 20 where there is no such command, or the line is too long to be read, and 21 where nothing is asked.
 fn kind(line: &[u8], long: bool) -> usize {
     if long {
-        return 19;
+        return 20;
     }
     if text::is_silent(line) {
-        return 20;
+        return 21;
     }
     command(text::field(line, 0))
 }
@@ -356,7 +358,7 @@ fn kind(line: &[u8], long: bool) -> usize {
 // The number of a command: its place in this list.
 fn command(word: &[u8]) -> usize {
     let words =
-        b"lend set field dump new working residual bits enable compact relabel remove remove_at key_of contains slot_at add add_keyed add_multi";
+        b"lend set field dump new working residual bits enable compact relabel remove remove_at key_of contains slot_at add add_keyed add_multi score";
     text::word_number(words, word)
 }
 
@@ -538,7 +540,7 @@ fn field_total(c: usize) -> usize {
     match c {
         3 | 8 | 9 => 1,
         7 | 11 | 13 | 14 | 16 => 2,
-        4 | 6 | 10 | 12 | 15 | 17 | 18 => 3,
+        4 | 6 | 10 | 12 | 15 | 17 | 18 | 19 => 3,
         _ => 4,
     }
 }
@@ -547,7 +549,7 @@ fn field_total(c: usize) -> usize {
 fn number_count(c: usize) -> usize {
     match c {
         3 | 8 | 9 | 16 => 0,
-        7 | 11 | 13 | 14 | 17 | 18 => 1,
+        7 | 11 | 13 | 14 | 17 | 18 | 19 => 1,
         4 | 6 | 10 | 12 | 15 => 2,
         _ => 3,
     }
@@ -575,7 +577,7 @@ fn request_of(line: &[u8], c: usize) -> Request {
     let y = argument(line, 2, n, u64::MAX);
     let z = argument(line, 3, n, u64::MAX);
     Request {
-        ok: x.ok && y.ok && z.ok && text::field_count(line) == field_total(c) && c < 19,
+        ok: x.ok && y.ok && z.ok && text::field_count(line) == field_total(c) && c < 20,
         a: x.value,
         b: y.value,
         c: z.value,
@@ -622,7 +624,7 @@ fn reply(
     if c == 2 {
         return reply_field(line, out, index);
     }
-    if c == 20 {
+    if c == 21 {
         return Replied {
             index: index,
             length: 0,
@@ -633,7 +635,7 @@ fn reply(
         return unreadable(out, index);
     }
     if 15 < c {
-        return reply_add(
+        return reply_vector(
             c,
             line,
             q.a,
@@ -1011,10 +1013,10 @@ fn vector_place(c: usize) -> usize {
     2
 }
 
-fn reply_add(
+fn reply_vector(
     c: usize,
     line: &[u8],
-    key: u64,
+    number: u64,
     out: &mut [u8],
     codes: &mut [u8],
     scales: &mut [u32],
@@ -1032,11 +1034,32 @@ fn reply_add(
         return unreadable(out, index);
     }
     let n = run.length;
+    if c == 19 {
+        return Replied {
+            index: index,
+            length: put_score(
+                out,
+                score_slot::score(
+                    index,
+                    codes,
+                    scales,
+                    keys,
+                    keyed,
+                    held,
+                    alive,
+                    codes2,
+                    scales2,
+                    number as usize,
+                    &v[0..n],
+                ),
+            ),
+        };
+    }
     put_added(
         out,
         add_vector(
             c,
-            key,
+            number,
             &v[0..n],
             codes,
             scales,
@@ -1186,6 +1209,16 @@ fn put_asked(out: &mut [u8], asked: Asked) -> usize {
         Asked::Yes => text::put_bytes(out, 0, b"yes"),
         Asked::No => text::put_bytes(out, 0, b"no"),
         Asked::Refused(n) => put_refused(out, n),
+    }
+}
+
+fn put_score(out: &mut [u8], scored: Scored) -> usize {
+    match scored {
+        Scored::Score(x) => {
+            let at = text::put_bytes(out, 0, b"score ");
+            text::put_hex(out, at, pattern::to_bits(x) as u64, 8)
+        }
+        Scored::Refused(n) => put_refused(out, n),
     }
 }
 

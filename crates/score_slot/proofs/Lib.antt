@@ -1,0 +1,4 @@
+-- Laws of the call `score`.
+mod Query
+mod Slot
+mod Answer

@@ -1,0 +1,71 @@
+-- A query's refusals before any score, test by test, and what follows where there is none.
+use mathlib.Core.Path.{_≡_, refl, _∙_}
+use mathlib.Core.Bool.{Bool, true, false, cond, _&&_}
+use mathlib.Core.List.{List, [], _∷_}
+use Prim.Native.Nat.{ℕ, zero, suc}
+use native.Mathlib.Omega.{arith}
+use borrow.Author.Tests.{eqb-true}
+use lib.Dec.{eqb}
+use lib.ListN.{length, take}
+use lib.Ieee.{Float}
+use Rattle.pattern.specs.Binary32.{sumSquares}
+use Rattle.unit.specs.Unit.{sumFault, vectorFault}
+use Rattle.encode.specs.declared.Header.{Header}
+use Rattle.encode.specs.Coded.{fault}
+use Rattle.index.specs.Codec.{tiny}
+use Rattle.index.specs.Step.{firstOf, when}
+use Rattle.score_slot.specs.Query.{queryFault}
+
+-- ---- the tests
+
+module _ (h : Header) (any : Bool) (q : List Float) where
+  by-tests : (n : ℕ) (b : Bool) → n ≡ fault h q → b ≡ (tiny h && any) → firstOf (n ∷ when b 10 ∷ []) ≡ queryFault h any q
+  unfolding queryFault
+  by-tests n b e f = λ j. firstOf (e j ∷ when (f j) 10 ∷ [])
+
+  pub fault-vector : (n : ℕ) → n ≡ fault h q → (n ≡ 0 → ⊥) → n ≡ queryFault h any q
+  unfolding firstOf
+  fault-vector n e some = go n some ∙ by-tests n (tiny h && any) e refl
+    where
+      go : (m : ℕ) → (m ≡ 0 → ⊥) → m ≡ firstOf (m ∷ when (tiny h && any) 10 ∷ [])
+      go zero s = absurd (s refl)
+      go (suc m) s = refl
+
+  module _ (e : 0 ≡ fault h q) where
+    pub fault-idle : any ≡ false → 0 ≡ queryFault h any q
+    unfolding firstOf
+    fault-idle f = by-tests 0 false e (rw f (go (tiny h)))
+      where
+        go : (t : Bool) → false ≡ (t && false)
+        go true = refl
+        go false = refl
+
+    pub fault-tiny : any ≡ true → (t : Bool) → t ≡ tiny h → when t 10 ≡ queryFault h any q
+    unfolding firstOf
+    fault-tiny f t g = go t ∙ by-tests 0 t e (g ∙ rw f (same (tiny h)))
+      where
+        same : (b : Bool) → b ≡ (b && true)
+        same true = refl
+        same false = refl
+
+        go : (b : Bool) → when b 10 ≡ firstOf (0 ∷ when b 10 ∷ [])
+        go true = refl
+        go false = refl
+
+-- ---- no refusal
+
+pub no-fault : (h : Header) (any : Bool) (q : List Float) → queryFault h any q ≡ 0 → fault h q ≡ 0
+unfolding queryFault firstOf
+no-fault h any q e = go (fault h q) (tiny h && any) e
+  where
+    go : (n : ℕ) (b : Bool) → firstOf (n ∷ when b 10 ∷ []) ≡ 0 → n ≡ 0
+    go zero b f = refl
+    go (suc n) b f = absurd (let z : suc n ≡ 0 = f in omega arith)
+
+pub has-length : (dim working : ℕ) (v : List Float) → vectorFault dim working v ≡ 0 → length v ≡ dim
+unfolding vectorFault
+has-length dim working v e = go (eqb (length v) dim) refl e
+  where
+    go : (b : Bool) → eqb (length v) dim ≡ b → _≡_ {A = ℕ} (cond b (sumFault (sumSquares (take working v))) 1) 0 → length v ≡ dim
+    go true f q = eqb-true (length v) dim f
+    go false f q = absurd (let z : _≡_ {A = ℕ} 1 0 = q in omega arith)

@@ -1,0 +1,2 @@
+-- What scoring asks of a query before any score.
+pub mod Query

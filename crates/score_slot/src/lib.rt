@@ -1,0 +1,171 @@
+// The score of one slot under a query (document 01, store.rs, `score`). A dead slot is scored too, so no live mark is read but by the first test.
+ghost use mathlib.Core.Path.{_≡_};
+ghost use mathlib.Core.Bool.{cond, true};
+ghost use mathlib.Core.Option.{none, some};
+ghost use Prim.Native.Nat.{_≤_};
+ghost use lib.ListN.{length, getD};
+ghost use Rattle.unit.specs.Calls.{rotatable};
+ghost use Rattle.encode.specs.Coded.{codeIn};
+ghost use Rattle.score.specs.Score.{slotScore, judged};
+ghost use Rattle.index.specs.Arrays.{lent};
+ghost use Rattle.index.specs.State.{headerOf, stageAt};
+ghost use Rattle.index.specs.Codec.{tiny, scoreOf};
+ghost use Rattle.index.specs.Step as Step;
+ghost use Rattle.index.specs.Call.{call};
+ghost use Rattle.index.specs.Answers.{result, scored};
+ghost use Rattle.score_slot.specs.Query.{queryFault};
+use index::Index;
+use score::Scored;
+
+// ---- the query
+
+// Refusal 10: padded size 1 at 4 bits.
+fn is_tiny(index: Index) -> bool
+    ensures { λ r. ⌜ r ≡ tiny (headerOf index) ⌝ }
+{
+    if rhdh::padded_dim(index.working_dim) == 1 {
+        return index.bits == 4;
+    }
+    false
+}
+
+// The refusal of a query before any score: 1, 2, 3, and 10 where there is any slot to score; 0 for none.
+pub fn query_fault(index: Index, any: bool, query: &[f32]) -> u8
+    ensures { λ r. ⌜ r ≡ queryFault (headerOf index) any (now (query .entry)) ⌝ }
+{
+    let fault = unit::vector_fault(index.dim, index.working_dim, query);
+    if fault != 0 {
+        return fault;
+    }
+    if !any {
+        return 0;
+    }
+    if is_tiny(index) {
+        return 10;
+    }
+    0
+}
+
+// A working array. Its contents don't matter.
+fn floats() -> [f32; 4096] {
+    [0.0; 4096]
+}
+
+// ---- the slot
+
+// The scale of a slot; 0 past the end.
+fn scale_at(scales: &[u32], slot: usize) -> u32
+    ensures { λ r. ⌜ r ≡ getD (now (scales .entry)) slot 0 ⌝ }
+{
+    if slot < scales.len() {
+        return scales[slot];
+    }
+    0
+}
+
+// The score of a slot under a prepared query.
+fn score_prepared(
+    index: Index,
+    codes: &[u8],
+    scales: &[u32],
+    codes2: &[u8],
+    scales2: &[u32],
+    slot: usize,
+    centroids: &[f32],
+    query: &[f32],
+) -> Scored
+    requires { ⌜ (4 ≤ index .bits) × (index .bits ≤ 6) ⌝ }
+    ensures { λ r. ⌜
+        r ≡ judged (slotScore (index .bits) (now (centroids .entry)) (now (query .entry))
+        (stageAt (headerOf index) (now (scales .entry)) (now (codes .entry)) slot)
+        (cond (index .residual) (some (stageAt (headerOf index) (now (scales2 .entry)) (now (codes2 .entry)) slot)) none)) ⌝ }
+{
+    let size = codes::bytes_per_vector(rhdh::padded_dim(index.working_dim), index.bits);
+    let scale = scale_at(scales, slot);
+    let block = codes::slot_codes(codes, slot, size);
+    if index.residual {
+        let scale2 = scale_at(scales2, slot);
+        let block2 = codes::slot_codes(codes2, slot, size);
+        return score::score_residual(index.bits, centroids, query, scale, block, scale2, block2);
+    }
+    score::score(index.bits, centroids, query, scale, block)
+}
+
+// The score of a slot under a query that is not refused, by the centroids of the width.
+fn score_by_width(
+    index: Index,
+    codes: &[u8],
+    scales: &[u32],
+    codes2: &[u8],
+    scales2: &[u32],
+    slot: usize,
+    query: &[f32],
+) -> Scored
+    requires { ⌜ (4 ≤ index .bits) × (index .bits ≤ 6) ⌝ }
+    requires { ⌜ rotatable (index .«working_dim») (length (now query)) 4096 ≡ true ⌝ }
+    ensures { λ r. ⌜
+        r ≡ judged (scoreOf (headerOf index) (now (query .entry)) (codeIn (index .residual)
+        (stageAt (headerOf index) (now (scales .entry)) (now (codes .entry)) slot)
+        (stageAt (headerOf index) (now (scales2 .entry)) (now (codes2 .entry)) slot))) ⌝ }
+{
+    let n = lloyd::levels(index.bits);
+    let centroids = lloyd::centroids(index.bits);
+    let padded = rhdh::padded_dim(index.working_dim);
+    let mut prepared = floats();
+    unit::prepare(index.working_dim, index.seed, query, &mut prepared);
+    score_prepared(
+        index,
+        codes,
+        scales,
+        codes2,
+        scales2,
+        slot,
+        &centroids[0..n],
+        &prepared[0..padded],
+    )
+}
+
+// ---- the call
+
+// The score of a slot under a query, refused by 13, 1, 2, 3, 9, 10 and 12 in this order.
+pub fn score(
+    index: Index,
+    codes: &[u8],
+    scales: &[u32],
+    keys: &[u64],
+    keyed: &[bool],
+    held: &[u32],
+    alive: &[u8],
+    codes2: &[u8],
+    scales2: &[u32],
+    slot: usize,
+    query: &[f32],
+) -> Scored
+    ensures { λ r. ⌜
+        result index (lent (codes .entry) (scales .entry) (keys .entry) (keyed .entry) (held .entry) (alive .entry) (codes2 .entry) (scales2 .entry)) (scored r)
+        ≡ call index (lent (codes .entry) (scales .entry) (keys .entry) (keyed .entry) (held .entry) (alive .entry) (codes2 .entry) (scales2 .entry))
+        (Step.score slot (now (query .entry))) ⌝ }
+{
+    if !fit::fits(
+        index,
+        codes,
+        scales,
+        keys,
+        keyed,
+        held,
+        alive,
+        codes2,
+        scales2,
+    ) {
+        return Scored::Refused(13);
+    }
+    let used = slot < index.n;
+    let fault = query_fault(index, used, query);
+    if fault != 0 {
+        return Scored::Refused(fault);
+    }
+    if used {
+        return score_by_width(index, codes, scales, codes2, scales2, slot, query);
+    }
+    Scored::Refused(9)
+}
