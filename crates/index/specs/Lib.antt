@@ -8,4 +8,5 @@ pub mod Step
 pub mod Call
 pub mod Make
 pub mod Answers
+pub mod History
 pub mod Sound
