@@ -20,16 +20,6 @@ use Rattle.index.proofs.Blocks.{joined-append, length-joined, length-block}
 use Rattle.held.specs.Held.{below}
 use Rattle.compact.specs.Gathered.{liveSlots, gathered, gatheredBlocks, Downward}
 
-module _ {slots : List ℕ} {n room : ℕ} (w : Downward slots n room) where
-  -- as many places as entries
-  pub downward-room : (i : ℕ) → i ≤ n → i ≤ room
-  downward-room zero l = omega arith
-  downward-room (suc j) l = omega (arith, w .down j l, w .below j l)
-
-  -- fewer of them
-  pub downward-fewer : (m : ℕ) → m ≤ n → Downward slots m room
-  downward-fewer m l = record { many = omega (arith, w .many); down = λ j k. w .down j (omega arith); below = λ j k. w .below j (omega arith) }
-
 -- ---- entries
 
 -- the first i of n entries have moved

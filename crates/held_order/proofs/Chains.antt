@@ -174,9 +174,6 @@ module _ (keys : List ℕ) (keyed : List Bool) where
     pub chain-head : (first : ℕ) → first ≡ getD heads chain 0 → Latest keys keyed (chainOf (getD keys i 0)) i first
     chain-head first e = rw (e, is) (t .head (chainOf (getD keys i 0)) (mod-lt (getD keys i 0) {m = 65521} (omega arith)))
 
-    pub chain-low : chain < 65521
-    chain-low = rw is (mod-lt (getD keys i 0) {m = 65521} (omega arith))
-
     pub chains-entered : getD keyed i false ≡ true → 65521 ≤ length heads → i < length before →
         Chains keys keyed (set heads chain (i + 1)) (set before i (getD heads chain 0)) (suc i)
     chains-entered on many room = rw (add-one i, is) (chains-keyed keys keyed heads before i on many room t)

@@ -13,7 +13,7 @@ use Rattle.lists.proofs.Laws.{length-tab}
 use Rattle.lists.proofs.Keep.{count-length}
 use Rattle.codes.specs.Writing.{atWidth}
 use Rattle.pattern.specs.Binary32.{sumSquares}
-use Rattle.unit.specs.Unit.{sumFault, vectorFault}
+use Rattle.unit.proofs.Vectors.{has-length}
 use Rattle.encode.specs.Coded.{fault, noSpare}
 use Rattle.index.specs.declared.Index.{Index}
 use Rattle.index.specs.Arrays.{Arrays}
@@ -74,14 +74,6 @@ accepted x a i room m v r = go (fit x a) refl (fault (headerOf x) v) refl (leb r
     go true f (suc n) g t k q = absurd (let z : suc n ≡ 0 = q in omega arith)
     go true f zero g true k q = absurd (let z : suc m ≡ 0 = q in omega arith)
     go true f zero g false k q = record { fits = f; vector = g; below = leb-false room i k }
-
-has-length : (dim working : ℕ) (v : List Float) → vectorFault dim working v ≡ 0 → length v ≡ dim
-unfolding vectorFault
-has-length dim working v e = go (eqb (length v) dim) refl e
-  where
-    go : (b : Bool) → eqb (length v) dim ≡ b → _≡_ {A = ℕ} (cond b (sumFault (sumSquares (take working v))) 1) 0 → length v ≡ dim
-    go true f q = eqb-true (length v) dim f
-    go false f q = absurd (let z : _≡_ {A = ℕ} 1 0 = q in omega arith)
 
 module _ (x : Index) (a : Arrays) (i room : ℕ) (v : List Float) (ok : Accepted x a i room v) (space : room ≤ capacity (headerOf x) a) where
   pub slot-room : suc i ≤ capacity (headerOf x) a

@@ -27,7 +27,8 @@ use Rattle.index.proofs.Calls.{call-answered}
 use Rattle.fit.proofs.Meaning.{meaning}
 use Rattle.held.proofs.Value.{slot-in, slot-past}
 use Rattle.score_slot.specs.Query.{queryFault}
-use Rattle.score_slot.proofs.Query.{no-fault, has-length}
+use Rattle.unit.proofs.Vectors.{has-length}
+use Rattle.score_slot.proofs.Query.{no-fault}
 
 -- ---- the answer, by what the query's tests say
 

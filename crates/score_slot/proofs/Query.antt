@@ -9,7 +9,6 @@ use lib.Dec.{eqb}
 use lib.ListN.{length, take}
 use lib.Ieee.{Float}
 use Rattle.pattern.specs.Binary32.{sumSquares}
-use Rattle.unit.specs.Unit.{sumFault, vectorFault}
 use Rattle.encode.specs.declared.Header.{Header}
 use Rattle.encode.specs.Coded.{fault}
 use Rattle.index.specs.Codec.{tiny}
@@ -61,11 +60,3 @@ no-fault h any q e = go (fault h q) (tiny h && any) e
     go : (n : ℕ) (b : Bool) → firstOf (n ∷ when b 10 ∷ []) ≡ 0 → n ≡ 0
     go zero b f = refl
     go (suc n) b f = absurd (let z : suc n ≡ 0 = f in omega arith)
-
-pub has-length : (dim working : ℕ) (v : List Float) → vectorFault dim working v ≡ 0 → length v ≡ dim
-unfolding vectorFault
-has-length dim working v e = go (eqb (length v) dim) refl e
-  where
-    go : (b : Bool) → eqb (length v) dim ≡ b → _≡_ {A = ℕ} (cond b (sumFault (sumSquares (take working v))) 1) 0 → length v ≡ dim
-    go true f q = eqb-true (length v) dim f
-    go false f q = absurd (let z : _≡_ {A = ℕ} 1 0 = q in omega arith)

@@ -1,11 +1,12 @@
 -- The refusals of a vector, its rotation, and a prepared query.
 use mathlib.Core.Path.{_≡_, refl, sym, ap, ap₂, _∙_}
-use mathlib.Core.Bool.{true, false}
+use mathlib.Core.Bool.{Bool, true, false, cond}
 use mathlib.Core.List.{List, _++_}
 use Prim.Native.Nat.{ℕ, _-_, _^_, _≤_}
 use native.Mathlib.Nat.{sub-zero, le-trans, le-refl}
 use native.Mathlib.Omega.{arith}
-use borrow.Author.Tests.{le-leb, eq-eqb, ne-eqb}
+use borrow.Author.Tests.{le-leb, eq-eqb, ne-eqb, eqb-true}
+use lib.Dec.{eqb}
 use lib.ListN.{length, take, drop}
 use lib.Seq.{take-all, length-take-le}
 use lib.Ieee.{Float, binary32, ofBits}
@@ -23,6 +24,15 @@ use Rattle.unit.proofs.Filling.{length-divided}
 use Rattle.unit.proofs.Rotatable.{Rotatable, is-rotatable, rotatable-of, padded-most}
 
 -- ---- refusals 1, 2 and 3
+
+-- a vector that is taken has the length
+pub has-length : (dim working : ℕ) (v : List Float) → vectorFault dim working v ≡ 0 → length v ≡ dim
+unfolding vectorFault
+has-length dim working v e = go (eqb (length v) dim) refl e
+  where
+    go : (b : Bool) → eqb (length v) dim ≡ b → _≡_ {A = ℕ} (cond b (sumFault (sumSquares (take working v))) 1) 0 → length v ≡ dim
+    go true f q = eqb-true (length v) dim f
+    go false f q = absurd (let z : _≡_ {A = ℕ} 1 0 = q in omega arith)
 
 module _ (dim working : ℕ) (v : List Float) where
   pub other-length : (length v ≡ dim → ⊥) → 1 ≡ vectorFault dim working v
