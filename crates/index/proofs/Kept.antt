@@ -41,7 +41,7 @@ when-none false n e = refl
 
 -- ---- look-ups among the live slots are counts of marks
 
-live-count : (p : Mark → Bool) → ((u : ℕ) → p (dead u) ≡ false) → (i : ℕ) (ss : List Slot) → count (λ c. p (c .slot .mark)) (liveFrom i ss) ≡ count p (marks ss)
+pub live-count : (p : Mark → Bool) → ((u : ℕ) → p (dead u) ≡ false) → (i : ℕ) (ss : List Slot) → count (λ c. p (c .slot .mark)) (liveFrom i ss) ≡ count p (marks ss)
 unfolding liveFrom
 live-count p d i [] = refl
 live-count p d i (s ∷ ss) = go (s .mark) (live-count p d (suc i) ss)
