@@ -1,10 +1,11 @@
 //! The fixed list of the program `exercise`. The Rust's answer stands where the line is inside the comparison; the answers to all other lines are
 //! written here, from document 01 and from the language.
 use crate::driver::{Answer, Driver};
+use crate::language::Array;
 use crate::list::List;
 use crate::model::block_size;
 use crate::random::Random;
-use crate::text::vector;
+use crate::text::{bytes, vector};
 
 #[derive(Default)]
 struct Tally {
@@ -55,6 +56,17 @@ impl Fixed {
         self.list.ask(line, answer.to_string());
     }
 
+    /// A line that may be inside the comparison or not, and its answer.
+    fn either(&mut self, line: impl Into<String>) -> String {
+        let line = line.into();
+        let answer = self.driver.clone().answer(line.as_bytes());
+        match answer {
+            Answer::Rust(_) => self.ask(line),
+            _ => self.told(line, answer.text()),
+        }
+        answer.text().to_string()
+    }
+
     fn told_all(&mut self, lines: &[&str], answer: &str) {
         lines.iter().for_each(|&line| self.told(line, answer));
     }
@@ -78,12 +90,22 @@ pub fn list() -> List {
     spare_bits(&mut fixed);
     vectors(&mut fixed);
     scores(&mut fixed);
+    searches(&mut fixed);
+    ties(&mut fixed);
+    keyed_searches(&mut fixed);
+    cascades(&mut fixed);
+    search_refusals(&mut fixed);
+    files(&mut fixed);
+    readings(&mut fixed);
+    cuts_and_damage(&mut fixed);
+    reading_refusals(&mut fixed);
     order(&mut fixed);
     making_misfits(&mut fixed);
     short_arrays(&mut fixed);
     misfits(&mut fixed);
     no_misfits(&mut fixed);
     histories(&mut fixed);
+    twins(&mut fixed);
     unreadable(&mut fixed);
     let Tally { rust, language, stated } = fixed.tally;
     println!("{rust:6}  answers of the Rust, {language} ok of the language, {stated} stated");
@@ -503,6 +525,550 @@ fn scores(f: &mut Fixed) {
     f.told_all(&["score", "score 0", "score 3f800000", "score 0 3f800000 3f800000", "score 00 3f800000", "score 0 3f80000"], "?");
 }
 
+// ---- searches
+
+/// The three searches of one query, k and r, with as many places as they need and more. `cascade` says whether it is on.
+fn search_all(f: &mut Fixed, k: usize, r: usize, query: &str, cascade: bool) {
+    let need = k.max(1).min(f.driver.record.live);
+    f.ask(format!("search {k:x} {need:x} {query}"));
+    f.ask(format!("search_keyed {k:x} {:x} {query}", need + 3));
+    if cascade {
+        f.ask(format!("search_cascade {k:x} {r:x} {:x} {query}", need + 1));
+    }
+}
+
+fn searches(f: &mut Fixed) {
+    f.section("searches: dims 1 to 17, each width and the residual, a dead slot among six; k of 0, 1, 3, as many as live, more");
+    for dim in 1..=17 {
+        for (making, width) in [("new", 4), ("new", 5), ("new", 6), ("residual", 4)] {
+            if dim == 1 && width == 4 {
+                continue;
+            }
+            f.lend(6, block_size(dim, 6));
+            f.asks(&[&format!("{making} {dim:x} {:x}", 23 * dim), &format!("bits {width:x}")]);
+            for (number, key) in [Some(7), None, Some(8), Some(7), None, Some(9)].into_iter().enumerate() {
+                let w = nth(dim, number as u64);
+                f.ask(key.map_or(format!("add {w}"), |key| format!("add_multi {key:x} {w}")));
+            }
+            f.ask("remove 8");
+            if width == 4 {
+                f.ask("enable");
+            }
+            for (k, r) in [(0, 0), (1, 1), (3, 2), (5, 5), (6, 9)] {
+                search_all(f, k, r, &nth(dim, 40 + k as u64), width == 4);
+            }
+        }
+    }
+    f.section("searches: fewer working dimensions, entries past them");
+    for (dim, working, width) in [(2, 1, 5), (3, 2, 6), (5, 4, 4), (9, 8, 5), (16, 5, 4), (17, 16, 6)] {
+        f.lend(4, block_size(working, 6));
+        f.asks(&[&format!("working {dim:x} {working:x} 3"), &format!("bits {width:x}")]);
+        for number in 0..4 {
+            f.ask(format!("add_keyed {number:x} {}", nth(dim, number)));
+        }
+        if width == 4 {
+            f.ask("enable");
+        }
+        let mut query = vec![1.0; working];
+        query.resize(dim, f32::NAN);
+        search_all(f, 3, 3, &v(&query), width == 4);
+        search_all(f, 3, 2, &nth(dim, 9), width == 4);
+    }
+    f.section("searches: an empty index, every slot dead, padded size 1");
+    let w = nth(4, 1);
+    f.lend(3, 4);
+    f.asks(&["new 4 1", "bits 4", "enable"]);
+    for k in [0, 1, 5] {
+        search_all(f, k, k, &w, true);
+    }
+    f.ask(format!("add_keyed 7 {w}"));
+    f.ask(format!("add_keyed 8 {}", nth(4, 2)));
+    f.asks(&["remove 7", "remove 8", "enable"]);
+    for k in [0, 1, 5] {
+        search_all(f, k, 0, &w, true);
+    }
+    f.label("at 4 bits padded size 1 is 10 where there is a live slot, and only there");
+    f.asks(&["new 1 1", "bits 4", "enable"]);
+    search_all(f, 1, 1, "40400000", true);
+    f.asks(&["add_keyed 7 40400000", "enable"]);
+    for search in ["search 1 1", "search_keyed 1 1", "search_cascade 1 1 1"] {
+        f.told(format!("{search} 40400000"), "refused 10");
+    }
+    f.ask("remove 7");
+    search_all(f, 1, 1, "40400000", true);
+    f.asks(&["new 1 1", "bits 5", "add_keyed 7 40400000", "add c0400000"]);
+    search_all(f, 2, 2, "40400000", false);
+}
+
+/// Slots with these scales, which all have the same codes: so the scores are equal where the scales are.
+fn with_scales(f: &mut Fixed, scales: &[u32]) {
+    f.lend(scales.len(), 3);
+    f.asks(&["new 4 1", "bits 4"]);
+    for (slot, scale) in scales.iter().enumerate() {
+        f.ask(format!("add_keyed {:x} {}", slot + 1, nth(4, 1)));
+        f.ask(format!("set scales {slot:x} {scale:x}"));
+    }
+    f.ask("enable");
+}
+
+fn ties(f: &mut Fixed) {
+    let (one, two, inf) = (0x3f80_0000, 0x4000_0000, 0x7f80_0000);
+    let (zero, minus_zero) = (0, 0x8000_0000);
+    f.section("ties: which of equal scores stay, and in which order, for every k");
+    f.label("document 01: scores 1, 1, 2 with k 2 give slots 2, 1; scores 2, 1, 1 give 0, 1");
+    for scales in [[one, one, two], [two, one, one]] {
+        with_scales(f, &scales);
+        search_all(f, 2, 2, &nth(4, 1), true);
+    }
+    let lists: &[&[u32]] = &[
+        &[one; 7],
+        &[one, two, one, two, one, two, one],
+        &[two, one, one, one, two, two, one, one],
+        &[one, one, one, two, two, two],
+        &[zero, minus_zero, zero, minus_zero, zero],
+        &[minus_zero, minus_zero, one, zero, zero, minus_zero],
+        &[inf, one, inf, zero, inf],
+        &[inf + (1 << 31), minus_zero, inf + (1 << 31), one + (1 << 31), one + (1 << 31)],
+        &[1, 0x8000_0001, 1, zero, minus_zero, 1],
+    ];
+    for scales in lists {
+        f.label(&format!("scales {}", scales.iter().map(|scale| format!("{scale:08x}")).collect::<Vec<_>>().join(" ")));
+        with_scales(f, scales);
+        for query in [nth(4, 1), nth(4, 2)] {
+            for k in 0..=scales.len() + 1 {
+                search_all(f, k, k, &query, true);
+            }
+        }
+    }
+    f.label("the same with slots removed among them");
+    with_scales(f, lists[2]);
+    f.asks(&["remove 1", "remove 5", "remove 7"]);
+    for k in 0..=6 {
+        search_all(f, k, 1, &nth(4, 1), true);
+    }
+}
+
+fn keyed_searches(f: &mut Fixed) {
+    f.section("keyed searches: unkeyed hits and repeats are dropped, so the list may be short");
+    f.lend(8, 3);
+    f.ask("new 4 1");
+    for (number, key) in [Some(7), None, Some(7), Some(8), None, Some(7), Some(u64::MAX), Some(0)].into_iter().enumerate() {
+        let w = nth(4, 60 + number as u64);
+        f.ask(key.map_or(format!("add {w}"), |key| format!("add_multi {key:x} {w}")));
+    }
+    for query in 0..4 {
+        for k in 0..=9 {
+            f.ask(format!("search_keyed {k:x} 8 {}", nth(4, 70 + query)));
+        }
+    }
+    f.label("no key at all");
+    f.ask("new 4 1");
+    for number in 0..3 {
+        f.ask(format!("add {}", nth(4, number)));
+    }
+    f.ask(format!("search_keyed 2 2 {}", nth(4, 1)));
+    f.label("a key whose slots score +0 and -0: the order is document 01's");
+    f.ask("new 4 1");
+    for slot in 0..2 {
+        f.ask(format!("add_multi 7 {}", nth(4, 1)));
+        f.ask(format!("set scales {slot} {:x}", (slot as u32) << 31));
+    }
+    let (query, other) = (nth(4, 1), v(&[1.0, -2.0, 3.0, 4.0]));
+    f.ask(format!("score 0 {query}"));
+    f.ask(format!("score 1 {query}"));
+    for query in [query, other] {
+        f.either(format!("search_keyed 2 2 {query}"));
+    }
+}
+
+fn cascades(f: &mut Fixed) {
+    f.section("cascades: every r and k over twelve slots, some as near as others");
+    for (making, dim) in [("new", 2), ("new", 4), ("new", 7), ("residual", 5)] {
+        f.lend(12, block_size(dim, 5));
+        f.asks(&[&format!("{making} {dim:x} 5"), "bits 4"]);
+        for number in 0..12 {
+            f.ask(format!("add_multi {:x} {}", number % 5, nth(dim, number % 7)));
+        }
+        f.asks(&["remove 3", "enable"]);
+        for r in 0..=11 {
+            for k in [0, 1, 2, 5, 10, 11] {
+                f.ask(format!("search_cascade {k:x} {r:x} a {}", nth(dim, 80 + r)));
+            }
+        }
+        f.ask(format!("search_cascade 2 ffffffffffffffff 2 {}", nth(dim, 8)));
+        f.ask(format!("search_cascade ffffffffffffffff 0 a {}", nth(dim, 8)));
+    }
+}
+
+fn search_refusals(f: &mut Fixed) {
+    f.section("searches: what is refused, and in which order");
+    let w = nth(4, 1);
+    let three = |rest: &str| [format!("search 2 2 {rest}"), format!("search_keyed 2 2 {rest}"), format!("search_cascade 2 2 2 {rest}")];
+    f.lend(4, 3);
+    f.ask("new 4 1");
+    for number in 1..=3 {
+        f.ask(format!("add_keyed {number:x} {}", nth(4, number)));
+    }
+    f.label("11, document 01's example: 5 bits");
+    f.told(format!("search_cascade 2 2 2 {w}"), "refused 11");
+    f.told(format!("search_cascade 2 2 2 {}", v(&[1.0])), "refused 11");
+    f.ask("new 4 1");
+    f.ask("bits 4");
+    for number in 1..=3 {
+        f.ask(format!("add_keyed {number:x} {}", nth(4, number)));
+    }
+    f.label("11: 4 bits, not enabled");
+    f.told(format!("search_cascade 2 2 2 {w}"), "refused 11");
+    f.ask("enable");
+    search_all(f, 2, 2, &w, true);
+    f.label("13, document 01's example: a result of 1, two hits; keyed and cascade too, one place short of each k");
+    for k in 1..=4 {
+        let short = k.min(3) - 1;
+        f.told(format!("search {k} {short} {w}"), "refused 13");
+        f.told(format!("search_keyed {k} {short} {w}"), "refused 13");
+        f.told(format!("search_cascade {k} 1 {short} {w}"), "refused 13");
+        search_all(f, k, 1, &w, true);
+    }
+    f.told_all(&[&format!("search 0 0 {w}"), &format!("search_keyed 0 0 {w}"), &format!("search_cascade 0 0 0 {w}")], "refused 13");
+    f.label("1, 2, 3; 13 before them");
+    for (entries, number) in [(vec![1.0, 2.0, 3.0], 1), (vec![], 1), (vec![0.0; 4], 2), (vec![f32::NAN, 1.0, 0.0, 0.0], 2), (vec![1.0e30, 0.0, 0.0, 0.0], 3)] {
+        let query = v(&entries);
+        for line in three(&query) {
+            f.told(line, &format!("refused {number}"));
+        }
+        f.told(format!("search 2 1 {query}"), "refused 13");
+        f.told(format!("search_keyed 2 1 {query}"), "refused 13");
+        f.told(format!("search_cascade 2 2 1 {query}"), "refused 13");
+    }
+    f.label("12: the scale of a live slot a NaN; a dead one's doesn't count; 2 before 12");
+    for scale in ["7fc00000", "ff800001"] {
+        f.ask(format!("set scales 1 {scale}"));
+        for line in &three(&w)[..2] {
+            f.told(line, "refused 12");
+        }
+        f.told(format!("search_cascade 2 3 2 {w}"), "refused 12");
+        f.told(format!("search 1 1 {w}"), "refused 12");
+        f.told(format!("search 2 2 {}", v(&[0.0; 4])), "refused 2");
+    }
+    f.label("12 of a cascade is over candidates only");
+    for query in 1..=4 {
+        for r in 1..=3 {
+            f.either(format!("search_cascade 1 {r} 1 {}", nth(4, query)));
+        }
+    }
+    f.asks(&["remove 2", "enable"]);
+    search_all(f, 2, 2, &w, true);
+    f.label("an infinite scale times a score of 0 is a NaN");
+    f.asks(&["set scales 0 7f800000", "set scales 2 0"]);
+    search_all(f, 2, 2, &w, true);
+    f.label("an unkeyed slot's NaN counts in a keyed search");
+    f.ask(format!("add {}", nth(4, 4)));
+    f.ask("set scales 3 7fc00000");
+    f.told(format!("search_keyed 1 1 {w}"), "refused 12");
+    f.label("13 before all");
+    f.ask("field live 2");
+    for line in three("-") {
+        f.told(line, "refused 13");
+    }
+    f.label("lines that can't be read");
+    f.told_all(
+        &[
+            "search", "search 1", "search 1 1", &format!("search 1 {w}"), &format!("search 1 1 1 {w}"), &format!("search 1 1001 {w}"),
+            &format!("search 01 1 {w}"), &format!("search 1 01 {w}"), &format!("search - 1 {w}"), "search 1 1 3f80000", &format!("search_keyed 1 1001 {w}"),
+            &format!("search_keyed 1 {w}"), &format!("search_cascade 1 1 {w}"), &format!("search_cascade 1 1 1001 {w}"),
+            &format!("search_cascade 1 1 1 1 {w}"), &format!("search_cascade 1 10000000000000000 1 {w}"), &format!("search_keyd 1 1 {w}"),
+        ],
+        "?",
+    );
+    f.label("as many places as the program holds");
+    f.ask("field live 3");
+    f.ask("set scales 3 3f800000");
+    f.ask(format!("search 1000 1000 {w}"));
+    f.ask(format!("search_keyed ffffffffffffffff 1000 {w}"));
+}
+
+// ---- files
+
+/// The file's length, then the file: too short by one, just as long, and longer.
+fn written(f: &mut Fixed) {
+    let Answer::Rust(length) = f.driver.clone().answer(b"length") else { panic!("no length") };
+    let length = usize::from_str_radix(length.strip_prefix("length ").expect("a length"), 16).expect("a number");
+    f.ask("length");
+    f.told(format!("write {:x}", length - 1), "refused 13");
+    f.ask(format!("write {length:x}"));
+    f.ask(format!("write {:x}", length + 3));
+}
+
+fn files(f: &mut Fixed) {
+    f.section("files: dims 1 to 17, each width and the residual, with and without keys, a dead slot");
+    for dim in 1..=17 {
+        for (making, width) in [("new", 4), ("new", 5), ("new", 6), ("residual", 4)] {
+            f.lend(4, block_size(dim, 6));
+            f.asks(&[&format!("{making} {dim:x} {:x}", 29 * dim), &format!("bits {width:x}")]);
+            written(f);
+            for (number, key) in [None, Some(8), Some(7), Some(7)].into_iter().enumerate() {
+                let w = nth(dim, number as u64);
+                f.ask(key.map_or(format!("add {w}"), |key| format!("add_multi {key:x} {w}")));
+            }
+            written(f);
+            f.ask("remove 8");
+            written(f);
+            f.ask("remove 7");
+            written(f);
+        }
+    }
+    f.label("document 01: dim 1, seed 1, width 5, 3.0 added unkeyed");
+    f.lend(1, 1);
+    f.asks(&["new 1 1", "add 40400000"]);
+    written(f);
+    f.section("files: working_dim, large seeds and keys, scales at the edges of a half, spare bits");
+    f.lend(3, 5);
+    f.ask("working 9 5 ffffffffffffffff");
+    f.ask(format!("add_keyed ffffffffffffffff {}", nth(9, 1)));
+    f.ask(format!("add_keyed 102030405060708 {}", nth(9, 2)));
+    f.ask(format!("add_keyed 0 {}", nth(9, 3)));
+    written(f);
+    for scale in ["0", "80000000", "7f800000", "ff800000", "7fc00000", "ffc00001", "7f800001", "477fefff", "477ff000", "33000000", "33000001", "387fe000", "3f801000"] {
+        f.ask(format!("set scales 1 {scale}"));
+        f.ask("write 100");
+    }
+    f.lend(2, 1);
+    f.asks(&["new 1 1", "add 40400000", "set codes 0 ff", "write 100", "residual 1 1", "add 40400000", "set codes 0 ff", "set codes2 0 f3", "set scales2 0 7fffffff", "write 100"]);
+    f.label("13 of the index before that of the file");
+    f.ask("field live 2");
+    f.told_all(&["length", "write 0", "write 100"], "refused 13");
+    f.label("lines that can't be read");
+    f.told_all(&["length 0", "write", "write 10001", "write 01", "write -", "write 1 1"], "?");
+    f.ask("field live 1");
+    f.ask("write 10000");
+}
+
+// ---- reading
+
+/// A file of so many slots, of entries that come from a seed. `keys` are the key entries: slot and key.
+struct File {
+    version: u16,
+    working: u16,
+    dim: u32,
+    width: u8,
+    count: usize,
+    keys: Vec<(u32, u64)>,
+}
+
+impl File {
+    fn new(version: u16, dim: u32, width: u8, count: usize, keys: &[(u32, u64)]) -> Self {
+        File { version, working: 0, dim, width, count, keys: keys.to_vec() }
+    }
+
+    fn block(&self) -> usize {
+        let ignored = matches!(self.version, 1 | 257) || self.working == 0;
+        block_size(if ignored { self.dim as usize } else { self.working as usize }, self.width)
+    }
+
+    fn bytes(&self) -> Vec<u8> {
+        let mut random = Random::new(u64::from(self.version) + u64::from(self.dim));
+        let mut file = b"VECQ".to_vec();
+        file.extend(self.version.to_le_bytes());
+        file.extend(self.working.to_le_bytes());
+        file.extend(self.dim.to_le_bytes());
+        file.extend(0x0123_4567_89ab_cdef_u64.to_le_bytes());
+        file.extend((self.count as u32).to_le_bytes());
+        if self.version == 261 {
+            file.push(self.width);
+        }
+        for _ in 0..if self.version == 260 { 2 } else { 1 } {
+            for slot in 0..self.count {
+                if self.version == 1 {
+                    file.extend((0.5 + slot as f32 / 3.0).to_le_bytes());
+                } else {
+                    file.extend((0x3800 + 0x123 * slot as u16).to_le_bytes());
+                }
+            }
+            file.extend((0..self.count * self.block()).map(|_| random.word() as u8));
+        }
+        if self.version >= 259 {
+            file.extend((self.keys.len() as u32).to_le_bytes());
+            for (slot, key) in &self.keys {
+                file.extend(slot.to_le_bytes());
+                file.extend(key.to_le_bytes());
+            }
+        }
+        file
+    }
+}
+
+fn read(f: &mut Fixed, file: &[u8]) -> String {
+    f.either(format!("read {}", bytes(file)))
+}
+
+/// Each version, the widths of 261, with a working_dim below dim where the version has it.
+fn versions(dim: u32, count: usize, keys: &[(u32, u64)]) -> Vec<File> {
+    let mut files: Vec<File> = [(1, 4), (257, 4), (258, 4), (259, 4), (260, 4), (261, 4), (261, 5), (261, 6)]
+        .map(|(version, width)| File::new(version, dim, width, count, keys))
+        .into();
+    files.extend([1, 257, 258, 260].map(|version| File { working: dim as u16 - 1, ..File::new(version, dim, 4, count, keys) }));
+    files
+}
+
+fn readings(f: &mut Fixed) {
+    f.section("reading: every version, then the index as it is: dump, questions, a search, the file again, an add");
+    for (dim, count, keys) in [(3, 3, vec![(2, 7), (0, 7), (1, u64::MAX)]), (5, 2, vec![(1, 9)]), (2, 0, vec![]), (9, 1, vec![])] {
+        for file in versions(dim, count, &keys) {
+            f.lend(4, 12);
+            f.label(&format!("version {}, width {}, working_dim field {}", file.version, file.width, file.working));
+            assert_eq!(read(f, &file.bytes()), "ok");
+            f.asks(&["dump", "contains 7", "slot_at 7 0", "slot_at 7 1", "key_of 1"]);
+            let query = nth(dim as usize, 1);
+            f.ask(format!("search 2 2 {query}"));
+            f.ask(format!("search_keyed 3 3 {query}"));
+            f.ask("length");
+            f.ask("write 200");
+            f.ask(format!("add_keyed 7 {query}"));
+            f.asks(&["dump", "write 200"]);
+        }
+    }
+    f.section("reading: what was written comes back, over arrays that held other things");
+    for making in ["new 5 3", "working 9 6 4", "residual 3 5", "new 8 0"] {
+        f.lend(6, 8);
+        f.ask(making);
+        let dim = f.driver.record.dim;
+        for number in 0..5 {
+            f.ask(format!("add_multi {:x} {}", number % 3, nth(dim, number)));
+        }
+        f.asks(&["remove_at 1 1", "remove_at 0 0", "dump"]);
+        let Answer::Rust(file) = f.driver.clone().answer(b"write 1000") else { panic!("no file") };
+        let file = file.strip_prefix("bytes ").expect("bytes").to_string();
+        f.ask("write 1000");
+        f.either(format!("read {file}"));
+        f.asks(&["dump", "write 1000"]);
+        f.label("and into arrays that are all 0");
+        f.lend(3, 8);
+        f.either(format!("read {file}"));
+        f.asks(&["dump", "write 1000"]);
+    }
+    f.section("reading: scales as they stand, subnormal halves (ours), NaNs");
+    f.lend(1, 1);
+    let mut file = File::new(259, 1, 4, 1, &[]).bytes();
+    for half in [0u16, 0x8000, 1, 0x8001, 0x3ff, 0x400, 0x7bff, 0x7c00, 0xfc00, 0x7c01, 0xfe00, 0x7fff, 0xffff] {
+        file[24..26].copy_from_slice(&half.to_le_bytes());
+        read(f, &file);
+        f.asks(&["dump", "write 100"]);
+    }
+    let mut file = File::new(1, 1, 4, 1, &[]).bytes();
+    for scale in [0u32, 0x8000_0000, 1, 0x7f80_0000, 0x7f80_0001, 0xffff_ffff, 0x3f80_0000] {
+        file[24..28].copy_from_slice(&scale.to_le_bytes());
+        read(f, &file);
+        f.asks(&["dump", "write 100"]);
+    }
+    f.label("bytes after the last block are passed over; 261 with width 4 is written back as 259; a working_dim field equal to dim becomes 0");
+    f.lend(2, 4);
+    let mut file = File::new(261, 3, 4, 2, &[(1, 5)]).bytes();
+    file.extend([1, 2, 3]);
+    file[6] = 3;
+    read(f, &file);
+    f.asks(&["dump", "write 100"]);
+}
+
+fn cuts_and_damage(f: &mut Fixed) {
+    f.section("reading: each file cut at every length");
+    f.lend(2, 4);
+    for file in versions(2, 2, &[(1, 9), (0, 9)]) {
+        let file = file.bytes();
+        for length in 0..=file.len() {
+            read(f, &file[..length]);
+        }
+        f.ask("dump");
+    }
+    f.section("reading: each byte of header and key table damaged");
+    for file in versions(2, 2, &[(1, 9), (0, 9)]) {
+        let (whole, block) = (file.bytes(), file.block());
+        let stages = if file.version == 261 { 25 } else { 24 };
+        let scale = if file.version == 1 { 4 } else { 2 };
+        let keys = stages + 2 * (scale + block) * if file.version == 260 { 2 } else { 1 };
+        for at in (0..stages).chain(keys..whole.len()) {
+            for change in [0x01, 0x80] {
+                let mut damaged = whole.clone();
+                damaged[at] ^= change;
+                read(f, &damaged);
+            }
+        }
+        f.ask("dump");
+    }
+}
+
+fn reading_refusals(f: &mut Fixed) {
+    f.section("reading: document 01's examples of refusals, and which comes first; nothing changes");
+    f.lend(2, 4);
+    f.ask("new 4 1");
+    f.ask(format!("add_keyed 7 {}", nth(4, 1)));
+    f.ask("dump");
+    let file = |version, dim, count: usize| File::new(version, dim, 4, count, &[]).bytes();
+    let with = |file: &[u8], at: usize, bytes: &[u8]| {
+        let mut other = file.to_vec();
+        other[at..at + bytes.len()].copy_from_slice(bytes);
+        other
+    };
+    let whole = file(259, 4, 1);
+    let refused = |f: &mut Fixed, what: &str, file: &[u8], number: u8| {
+        f.label(what);
+        assert_eq!(read(f, file), format!("refused {number}"), "{what}");
+    };
+    refused(f, "14: 23 bytes", &whole[..23], 14);
+    refused(f, "14 before 15", b"VECR", 14);
+    refused(f, "15: VECR", &with(&whole, 0, b"VECR"), 15);
+    refused(f, "15 before 16", &with(&with(&whole, 0, b"VECR"), 4, &[6, 1]), 15);
+    refused(f, "16: 262", &with(&whole, 4, &[6, 1]), 16);
+    refused(f, "16 before 17", &with(&with(&whole, 4, &[6, 1]), 6, &[5, 0]), 16);
+    refused(f, "17: 5 over 4", &with(&whole, 6, &[5, 0]), 17);
+    refused(f, "17 before the width byte's 14", &with(&with(&whole[..24], 4, &[5, 1]), 6, &[5, 0]), 17);
+    refused(f, "14: no width byte", &with(&whole[..24], 4, &[5, 1]), 14);
+    refused(f, "that before 20", &with(&with(&whole[..24], 4, &[5, 1]), 8, &[1, 0x10, 0, 0]), 14);
+    let wide = File::new(261, 4, 5, 1, &[]).bytes();
+    refused(f, "18: width byte 3", &with(&wide, 24, &[3]), 18);
+    refused(f, "18: width byte 7", &with(&wide, 24, &[7]), 18);
+    refused(f, "18 before 20", &with(&with(&wide, 24, &[3]), 8, &[1, 0x10, 0, 0]), 18);
+    refused(f, "20: dim 4,097", &with(&whole, 8, &[1, 0x10, 0, 0]), 20);
+    refused(f, "20: count 65,537", &with(&whole, 20, &[1, 0, 1, 0]), 20);
+    refused(f, "20: a slot more than the lent arrays hold", &file(259, 4, 3), 20);
+    refused(f, "20 before 14", &file(259, 4, 3)[..24], 20);
+    refused(f, "14: the first block", &whole[..27], 14);
+    refused(f, "17: dim 0", &with(&file(259, 1, 1), 8, &[0; 4]), 17);
+    refused(f, "the first block's 14 before dim 0", &with(&file(259, 1, 1)[..25], 8, &[0; 4]), 14);
+    refused(f, "dim 0 before the rest's 14", &with(&file(259, 1, 1)[..27], 8, &[0; 4]), 17);
+    refused(f, "14: the key count", &whole[..29], 14);
+    refused(f, "19: slot 1 of 1", &File::new(259, 4, 4, 1, &[(1, 7)]).bytes(), 19);
+    refused(f, "19: a slot twice", &File::new(259, 4, 4, 2, &[(1, 7), (1, 8)]).bytes(), 19);
+    refused(f, "14 of a key entry before 19", &File::new(259, 4, 4, 1, &[(1, 7), (0, 8)]).bytes()[..50], 14);
+    refused(f, "14: a 260 file that ends before its key count (ours)", &file(260, 4, 1)[..32], 14);
+    f.label("nothing changed");
+    f.ask("dump");
+    for (lengths, array) in [
+        ("2 2 2 2 2 2 4 2", "codes"), ("4 1 2 2 2 2 4 2", "scales"), ("4 2 1 2 2 2 4 2", "keys"), ("4 2 2 1 2 2 4 2", "keyed"),
+        ("4 2 2 2 1 2 4 2", "held"), ("4 2 2 2 2 1 4 2", "alive"),
+    ] {
+        f.label(&format!("20: room for one slot in {array}"));
+        f.ask(format!("lend {lengths}"));
+        assert_eq!(read(f, &file(259, 4, 2)), "refused 20");
+        assert_eq!(read(f, &file(259, 4, 1)), "ok");
+    }
+    for (lengths, array) in [("4 2 2 2 2 2 2 2", "codes2"), ("4 2 2 2 2 2 4 1", "scales2")] {
+        f.label(&format!("20: room for one slot in {array}, which counts only if the file is residual"));
+        f.ask(format!("lend {lengths}"));
+        assert_eq!(read(f, &file(260, 4, 2)), "refused 20");
+        assert_eq!(read(f, &file(259, 4, 2)), "ok");
+    }
+    f.label("reading never gives 13: a misfit before it, arrays of length 0 for an empty file");
+    f.asks(&["field live 3", "field bits 9"]);
+    f.told("contains 7", "refused 13");
+    assert_eq!(read(f, &file(259, 4, 1)), "ok");
+    f.ask("dump");
+    f.ask("lend 0 0 0 0 0 0 0 0");
+    assert_eq!(read(f, &file(260, 4, 0)), "ok");
+    f.asks(&["dump", "length"]);
+    f.label("lines that can't be read");
+    f.told_all(&["read", "read 0", "read 0g", "read - -", "read 00 00", "read 0A"], "?");
+    f.ask("read -");
+}
 
 fn order(f: &mut Fixed) {
     f.section("which refusal comes first");
@@ -795,6 +1361,119 @@ fn histories(f: &mut Fixed) {
             }
         }
         f.ask("dump");
+    }
+}
+
+// ---- twins: one history with other compactions (document 01, "Histories")
+
+/// A call of a history. One about a slot names its arrival.
+enum Call {
+    Plain(String),
+    KeyOf(usize),
+    Score(usize, String),
+}
+
+/// The arrival of each slot in use, and the next one.
+#[derive(Default)]
+struct Twin {
+    arrivals: Vec<usize>,
+    next: usize,
+}
+
+impl Twin {
+    fn is_live(f: &Fixed, slot: usize) -> bool {
+        f.driver.arrays.get(Array::Alive, slot) == 1
+    }
+
+    fn live(&self, f: &Fixed) -> Vec<usize> {
+        (0..self.arrivals.len()).filter(|&slot| Self::is_live(f, slot)).map(|slot| self.arrivals[slot]).collect()
+    }
+
+    fn slot(&self, arrival: usize) -> usize {
+        self.arrivals.iter().position(|&a| a == arrival).expect("a live arrival has a slot")
+    }
+
+    fn compact(&mut self, f: &mut Fixed) {
+        let live = self.live(f);
+        assert_eq!(f.either("compact"), "ok");
+        self.arrivals = live;
+    }
+
+    /// The answer to a call, slots read by arrival.
+    fn call(&mut self, f: &mut Fixed, call: &Call) -> String {
+        let line = match call {
+            Call::Plain(line) => line.clone(),
+            Call::KeyOf(arrival) => format!("key_of {:x}", self.slot(*arrival)),
+            Call::Score(arrival, query) => format!("score {:x} {query}", self.slot(*arrival)),
+        };
+        let answer = f.either(line.clone());
+        if line.starts_with("add") && answer == format!("slot {:x}", self.arrivals.len()) {
+            self.arrivals.push(self.next);
+            self.next += 1;
+        }
+        let arrival = |slot: &str| self.arrivals[usize::from_str_radix(slot, 16).expect("a slot")];
+        if let Some(slot) = answer.strip_prefix("slot ") {
+            return format!("arrival {}", arrival(slot));
+        }
+        match answer.strip_prefix("list ") {
+            Some(hits) if line.starts_with("search ") => {
+                hits.split(' ').map(|hit| hit.split_once(':').expect("a hit")).map(|(slot, score)| format!("{}:{score} ", arrival(slot))).collect()
+            }
+            _ => answer,
+        }
+    }
+}
+
+fn some_call(f: &Fixed, twin: &Twin, random: &mut Random) -> Call {
+    let (w, query) = (nth(f.driver.record.dim, random.below(9)), nth(f.driver.record.dim, random.below(9)));
+    let (key, other, k) = (random.below(4), random.below(5), random.below(6));
+    let live = twin.live(f);
+    let named = live.get(random.below(live.len().max(1) as u64) as usize).copied();
+    match (random.below(14), named) {
+        (0 | 1, Some(arrival)) => Call::KeyOf(arrival),
+        (2, Some(arrival)) => Call::Score(arrival, query),
+        (3, _) => Call::Plain(format!("add {w}")),
+        (4 | 5, _) => Call::Plain(format!("add_keyed {key:x} {w}")),
+        (6 | 7, _) => Call::Plain(format!("add_multi {key:x} {w}")),
+        (8, _) => Call::Plain(format!("relabel {key:x} {other:x}")),
+        (9, _) => Call::Plain(format!("remove {key:x}")),
+        (10, _) => Call::Plain(format!("search {k:x} 20 {query}")),
+        (11, _) => Call::Plain(format!("search_keyed {k:x} 20 {query}")),
+        (12, _) => Call::Plain(format!("slot_at {key:x} {:x}", random.below(3))),
+        (13, _) => Call::Plain("write 400".to_string()),
+        _ => Call::Plain("length".to_string()),
+    }
+}
+
+fn twins(f: &mut Fixed) {
+    f.section("twins: a history without compactions, and twice the same list with some; answers equal by arrival");
+    for (number, making) in ["new 5 3", "working 9 6 4", "residual 3 5", "new 2 0"].iter().enumerate() {
+        let mut random = Random::new(90 + number as u64);
+        let start = |f: &mut Fixed| {
+            f.lend(32, 8);
+            f.ask(*making);
+            if number == 3 {
+                f.ask("bits 6");
+            }
+            Twin::default()
+        };
+        let mut twin = start(f);
+        let (mut calls, mut answers) = (Vec::new(), Vec::new());
+        for _ in 0..60 {
+            let call = some_call(f, &twin, &mut random);
+            answers.push(twin.call(f, &call));
+            calls.push(call);
+        }
+        for often in [3, 9] {
+            f.label(&format!("with compactions, one in {often}"));
+            let mut twin = start(f);
+            for (call, answer) in calls.iter().zip(&answers) {
+                if random.below(often) == 0 {
+                    twin.compact(f);
+                }
+                assert_eq!(&twin.call(f, call), answer, "the Rust's answers part");
+            }
+        }
     }
 }
 

@@ -53,7 +53,7 @@ fn run(buf: &mut [u8], out: &mut [u8]) {
     let mut cursor = lines::next_line(buf, lines::start());
     while 0 < cursor.left {
         let n = answer(lines::line(buf, cursor), cursor.long, out);
-        text::print_line(out, n);
+        print::print_line(out, n);
         cursor = lines::next_line(buf, cursor);
     }
 }
@@ -61,7 +61,7 @@ fn run(buf: &mut [u8], out: &mut [u8]) {
 // Puts the answer to a line into out, and answers its length. A line too long can't be read.
 fn answer(line: &[u8], long: bool, out: &mut [u8]) -> usize {
     if long {
-        return text::put_unreadable(out);
+        return print::put_unreadable(out);
     }
     if text::is_silent(line) {
         return 0;
@@ -81,13 +81,13 @@ fn answer_command(line: &[u8], c: usize, out: &mut [u8]) -> usize {
         3 => answer_score(line, out),
         4 => answer_score2(line, out),
         5 => answer_order(line, out),
-        _ => text::put_unreadable(out),
+        _ => print::put_unreadable(out),
     }
 }
 
 fn put_refused(out: &mut [u8], fault: u8) -> usize {
-    let at = text::put_bytes(out, 0, b"refused ");
-    text::put_decimal(out, at, fault as u64)
+    let at = print::put_bytes(out, 0, b"refused ");
+    print::put_decimal(out, at, fault as u64)
 }
 
 // ---- encodings
@@ -96,7 +96,7 @@ fn answer_encode(line: &[u8], out: &mut [u8]) -> usize {
     let x = header_at(line, 7);
     let n = block_length(x.header);
     if !x.ok {
-        return text::put_unreadable(out);
+        return print::put_unreadable(out);
     }
     let mut block = bytes();
     let mut block2 = bytes();
@@ -131,7 +131,7 @@ fn answer_over(line: &[u8], out: &mut [u8]) -> usize {
     let n = a.length;
     let n2 = b.length;
     if !(x.ok && a.ok && b.ok) {
-        return text::put_unreadable(out);
+        return print::put_unreadable(out);
     }
     answer_blocks(
         line,
@@ -160,7 +160,7 @@ fn answer_blocks(
     if x.ok {
         return put_encoding(out, header, fresh, &v[0..n], block, block2);
     }
-    text::put_unreadable(out)
+    print::put_unreadable(out)
 }
 
 fn put_encoding(
@@ -204,16 +204,16 @@ fn encode_by_width(
 fn put_slot(out: &mut [u8], residual: bool, s: Scales, block: &[u8], block2: &[u8]) -> usize {
     let at = put_stage(out, 0, block, s.scale);
     if residual {
-        let next = text::put_byte(out, at, b' ');
+        let next = print::put_byte(out, at, b' ');
         return put_stage(out, next, block2, s.scale2);
     }
     at
 }
 
 fn put_stage(out: &mut [u8], at: usize, block: &[u8], scale: u32) -> usize {
-    let next = text::put_run(out, at, block);
-    let after = text::put_byte(out, next, b' ');
-    text::put_hex(out, after, scale as u64, 8)
+    let next = print::put_run(out, at, block);
+    let after = print::put_byte(out, next, b' ');
+    print::put_hex(out, after, scale as u64, 8)
 }
 
 // ---- queries
@@ -223,7 +223,7 @@ fn answer_prepare(line: &[u8], out: &mut [u8]) -> usize {
     let x = query_at(line, 5, 1, 4, &mut q);
     let n = x.length;
     if !x.ok {
-        return text::put_unreadable(out);
+        return print::put_unreadable(out);
     }
     if x.fault != 0 {
         return put_refused(out, x.fault);
@@ -233,12 +233,12 @@ fn answer_prepare(line: &[u8], out: &mut [u8]) -> usize {
 
 fn put_query(out: &mut [u8], rnorm: f32, q: &[f32]) -> usize {
     let at = put_float(out, 0, rnorm);
-    let next = text::put_byte(out, at, b' ');
-    text::put_vector(out, next, q)
+    let next = print::put_byte(out, at, b' ');
+    print::put_vector(out, next, q)
 }
 
 fn put_float(out: &mut [u8], at: usize, x: f32) -> usize {
-    text::put_hex(out, at, pattern::to_bits(x) as u64, 8)
+    print::put_hex(out, at, pattern::to_bits(x) as u64, 8)
 }
 
 // A query as a line has it: whether it can be read, the refusal or 0, and how many entries the prepared query has.
@@ -305,7 +305,7 @@ fn answer_score(line: &[u8], out: &mut [u8]) -> usize {
     let m = x.length;
     let n = a.length;
     if !(w.ok && x.ok && a.ok) {
-        return text::put_unreadable(out);
+        return print::put_unreadable(out);
     }
     if x.fault != 0 {
         return put_refused(out, x.fault);
@@ -328,7 +328,7 @@ fn answer_score2(line: &[u8], out: &mut [u8]) -> usize {
     let x = query_at(line, 10, 2, 9, &mut q);
     let m = x.length;
     if !(w.ok && x.ok) {
-        return text::put_unreadable(out);
+        return print::put_unreadable(out);
     }
     answer_stages(line, w.width, x.fault, &q[0..m], out)
 }
@@ -342,7 +342,7 @@ fn answer_stages(line: &[u8], width: u8, fault: u8, q: &[f32], out: &mut [u8]) -
     let n = a.length;
     let n2 = b.length;
     if !(a.ok && b.ok) {
-        return text::put_unreadable(out);
+        return print::put_unreadable(out);
     }
     if fault != 0 {
         return put_refused(out, fault);
@@ -374,24 +374,24 @@ fn put_scored(out: &mut [u8], s: Scored) -> usize {
 }
 
 fn put_score(out: &mut [u8], x: f32) -> usize {
-    let at = text::put_bytes(out, 0, b"score ");
+    let at = print::put_bytes(out, 0, b"score ");
     put_float(out, at, x)
 }
 
 fn answer_order(line: &[u8], out: &mut [u8]) -> usize {
     let p = text::number_at(line, 1, 0xFFFF_FFFF);
     if text::field_count(line) != 2 {
-        return text::put_unreadable(out);
+        return print::put_unreadable(out);
     }
     if p.ok {
-        return text::put_hex(
+        return print::put_hex(
             out,
             0,
             score::order_number(pattern::from_bits(p.value as u32)) as u64,
             1,
         );
     }
-    text::put_unreadable(out)
+    print::put_unreadable(out)
 }
 
 // ---- the fields of a line

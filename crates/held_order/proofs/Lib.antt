@@ -1,3 +1,3 @@
 -- Laws of rising held order.
 pub mod Writing
-mod Chains
+mod Positions

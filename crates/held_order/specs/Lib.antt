@@ -1,3 +1,3 @@
 -- Rising held order.
 pub mod Restored
-pub mod Chains
+pub mod Placed

@@ -5,8 +5,9 @@ ghost use mathlib.Core.Bool.{true, false};
 ghost use Prim.Native.Nat.{ℕ, suc, _≤_, _<_};
 ghost use lib.ListN.{length, getD, set};
 ghost use Rattle.lists.specs.Lists.{tab, over};
+ghost use Rattle.chains.specs.Chains.{chainOf, Latest, LastOf, Linked, Chains};
 ghost use Rattle.held_order.specs.Restored.{risingPosition, restored};
-ghost use Rattle.held_order.specs.Chains.{chainOf, afterEntry, Placed, Latest, LastOf, Linked, Chains};
+ghost use Rattle.held_order.specs.Placed.{afterEntry, Placed};
 
 fn wide(x: u32) -> usize
     ensures { λ r. ⌜ r ≡ x ⌝ }
@@ -15,12 +16,6 @@ fn wide(x: u32) -> usize
 }
 
 // ---- chains
-
-fn chain_of(key: u64) -> usize
-    ensures { λ r. ⌜ r ≡ chainOf key ⌝ }
-{
-    (key % 65521) as usize
-}
 
 // The entry of the last slot below `slot` that has its key; 0 where there is none. `first` is the last entry of its chain.
 fn find(keys: &[u64], keyed: &[bool], before: &[u32], slot: usize, first: usize) -> usize
@@ -68,7 +63,7 @@ fn place_keyed(
     ensures { λ _. ⌜ now (held .exit) ≡ set (now (held .entry)) slot (risingPosition (now (keys .entry)) (now (keyed .entry)) slot) ⌝ }
     ensures { λ _. ⌜ Chains (now (keys .entry)) (now (keyed .entry)) (now (heads .exit)) (now (before .exit)) (suc slot) ⌝ }
 {
-    let chain = chain_of(held::key_word(keys, slot));
+    let chain = chains::chain_of(held::key_word(keys, slot));
     let first = heads[chain];
     let last = find(keys, keyed, before, slot, wide(first));
     held[slot] = next_position(held, last);
@@ -118,18 +113,12 @@ fn place_all(
     }
 }
 
-fn no_entries() -> [u32; 65536]
-    ensures { λ r. ⌜ ((k : ℕ) → getD r k 0 ≡ 0) ⌝ }
-{
-    [0; 65536]
-}
-
 fn restore(keys: &[u64], keyed: &[bool], held: &mut [u32], n: usize)
     requires { ⌜ (n ≤ length (now held)) × (n ≤ 65536) ⌝ }
     ensures { λ _. ⌜ now (held .exit) ≡ over (tab (risingPosition (now (keys .entry)) (now (keyed .entry))) n) (now (held .entry)) ⌝ }
 {
-    let mut heads = no_entries();
-    let mut before = no_entries();
+    let mut heads = chains::no_entries();
+    let mut before = chains::no_entries();
     place_all(keys, keyed, held, &mut heads, &mut before, n);
 }
 

@@ -46,7 +46,7 @@ fn run(buf: &mut [u8], out: &mut [u8]) {
     let mut cursor = lines::next_line(buf, lines::start());
     while 0 < cursor.left {
         let n = answer(lines::line(buf, cursor), cursor.long, out);
-        text::print_line(out, n);
+        print::print_line(out, n);
         cursor = lines::next_line(buf, cursor);
     }
 }
@@ -54,7 +54,7 @@ fn run(buf: &mut [u8], out: &mut [u8]) {
 // Puts the answer to a line into out, and answers its length. A line too long can't be read.
 fn answer(line: &[u8], long: bool, out: &mut [u8]) -> usize {
     if long {
-        return text::put_unreadable(out);
+        return print::put_unreadable(out);
     }
     if text::is_silent(line) {
         return 0;
@@ -71,11 +71,11 @@ fn command(word: &[u8]) -> usize {
 
 fn put_answer(out: &mut [u8], line: &[u8], c: usize, x: Numbers) -> usize {
     if !x.ok {
-        return text::put_unreadable(out);
+        return print::put_unreadable(out);
     }
     if c < 7 {
         let r = reply_to(c, x.a, x.b);
-        return text::put_hex(out, 0, r.value, r.width);
+        return print::put_hex(out, 0, r.value, r.width);
     }
     put_run(out, line, c, x)
 }
@@ -206,7 +206,7 @@ fn put_signs(out: &mut [u8], seed: u64, n: u64) -> usize {
     let mut i = 0;
     while i < n {
         let s = stream.next_sign();
-        at = text::put_byte(out, at, sign_byte(s.sign));
+        at = print::put_byte(out, at, sign_byte(s.sign));
         stream = s.stream;
         i += 1;
     }
@@ -221,7 +221,7 @@ fn put_halves(out: &mut [u8], from: u64, to: u64) -> usize {
     let mut at = 0;
     let mut h = from;
     while h < to {
-        at = text::put_hex(
+        at = print::put_hex(
             out,
             at,
             half::f16_bits_to_f32((h % 0x10000) as u16) as u64,
@@ -246,13 +246,13 @@ fn put_narrows_of(out: &mut [u8], at: usize, h: u16) -> usize {
     let p = half::f16_bits_to_f32(h);
     let magnitude = h % 0x8000;
     if 0x7C00 < magnitude {
-        return text::put_hex(out, at, narrow(p), 4);
+        return print::put_hex(out, at, narrow(p), 4);
     }
-    let next = text::put_hex(out, at, around(p), 12);
+    let next = print::put_hex(out, at, around(p), 12);
     if magnitude == 0x7C00 {
         return next;
     }
-    text::put_hex(out, next, around(midpoint(h)), 12)
+    print::put_hex(out, next, around(midpoint(h)), 12)
 }
 
 fn narrow(p: u32) -> u64
@@ -289,7 +289,7 @@ fn put_transformed(out: &mut [u8], line: &[u8], i: usize, rotated: bool, x: Numb
     let y = text::vector_at(line, i, &mut v);
     let n = y.length;
     if !y.ok {
-        return text::put_unreadable(out);
+        return print::put_unreadable(out);
     }
     if rotated {
         return put_rotated(out, Rhdh::new(x.a as usize, x.b), &v[0..n]);
@@ -299,13 +299,13 @@ fn put_transformed(out: &mut [u8], line: &[u8], i: usize, rotated: bool, x: Numb
 
 fn put_fwht(out: &mut [u8], v: &mut [f32]) -> usize {
     rhdh::fwht(v);
-    text::put_vector(out, 0, v)
+    print::put_vector(out, 0, v)
 }
 
 fn put_rotated(out: &mut [u8], rotation: Rhdh, v: &[f32]) -> usize {
     let padded = rotation.padded;
     if 4096 < padded {
-        return text::put_unreadable(out);
+        return print::put_unreadable(out);
     }
     let mut w = entries();
     put_applied(out, rotation, v, &mut w[0..padded])
@@ -313,5 +313,5 @@ fn put_rotated(out: &mut [u8], rotation: Rhdh, v: &[f32]) -> usize {
 
 fn put_applied(out: &mut [u8], rotation: Rhdh, v: &[f32], w: &mut [f32]) -> usize {
     rotation.apply(v, w);
-    text::put_vector(out, 0, w)
+    print::put_vector(out, 0, w)
 }

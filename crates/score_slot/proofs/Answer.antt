@@ -2,15 +2,13 @@
 use mathlib.Core.Path.{_≡_, refl, sym, ap, _∙_}
 use mathlib.Core.Bool.{Bool, true, false, cond, _&&_}
 use mathlib.Core.List.{List, [], _∷_}
-use mathlib.Core.Option.{Option, none, some}
-use Prim.Native.Nat.{ℕ, zero, suc, _≤_}
+use mathlib.Core.Option.{Option, none}
+use Prim.Native.Nat.{ℕ, zero, suc}
 use native.Mathlib.Omega.{arith}
 use lib.Dec.{ltb}
-use lib.ListN.{length, getElem?}
+use lib.ListN.{getElem?}
 use lib.Ieee.{Float, isNan}
 use borrow.Author.Tests.{ltb-true, ltb-false}
-use Rattle.unit.specs.Calls.{rotatable}
-use Rattle.unit.proofs.Rotatable.{is-rotatable, padded-most}
 use Rattle.encode.specs.Coded.{fault}
 use Rattle.score.specs.declared.Scored.{Scored}
 use Rattle.score.specs.declared.Scored.the-variants as Scored
@@ -24,11 +22,8 @@ use Rattle.index.specs.Step.{Answer, refused, done, scoreIs, firstOf, when, unl
 use Rattle.index.specs.Call.{call}
 use Rattle.index.specs.Answers.{result, scored}
 use Rattle.index.proofs.Calls.{call-answered}
-use Rattle.fit.proofs.Meaning.{meaning}
 use Rattle.held.proofs.Value.{slot-in, slot-past}
 use Rattle.score_slot.specs.Query.{queryFault}
-use Rattle.unit.proofs.Vectors.{has-length}
-use Rattle.score_slot.proofs.Query.{no-fault}
 
 -- ---- the answer, by what the query's tests say
 
@@ -63,9 +58,6 @@ answer-in (suc f) t x e = absurd (let z : suc f ≡ 0 = e in omega arith)
 
 -- ---- the call
 
-pub width-in : (x : Index) (a : Arrays) → fit x a ≡ true → (4 ≤ x .bits) × (x .bits ≤ 6)
-width-in x a e = let f = meaning x a .yes e .fields in (f .bits, f .bits-high)
-
 module _ (x : Index) (a : Arrays) (e : fit x a ≡ true) (i : ℕ) (q : List Float) where
   by-answer : (o : Option Slot) → getElem? (stateOf x a .slots) i ≡ o → (r : Answer) → r ≡ scoreAnswer (headerOf x) q o → result x a r ≡ call x a (score i q)
   unfolding step stateOf
@@ -96,15 +88,3 @@ module _ (x : Index) (a : Arrays) (e : fit x a ≡ true) (i : ℕ) (q : List Flo
       score-in l r f =
           by-answer _ (slot-in x a e i (ltb-true i (x .n) l)) (scored r)
           (ap scored f ∙ answer-in (fault (headerOf x) q) (tiny (headerOf x)) (scoreOf (headerOf x) q (slotAt (headerOf x) a i .code)) (rw l at (sym is ∙ accepted)))
-
-      -- what preparing the query asks for
-      pub query-rotatable : rotatable (x .«working_dim») (length q) 4096 ≡ true
-      query-rotatable =
-          let f = meaning x a .yes e .fields in
-          let few : x .«working_dim» ≤ 4096 = omega (arith, f .working-high, f .dim-high) in
-          is-rotatable (record {
-            some = f .working;
-            most = few;
-            has = omega (arith, f .working-high, has-length (x .dim) (x .«working_dim») q (no-fault (headerOf x) (ltb i (x .n)) q (sym is ∙ accepted)));
-            room = padded-most (x .«working_dim») few;
-          })

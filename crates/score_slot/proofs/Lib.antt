@@ -1,4 +1,4 @@
 -- Laws of the call `score`.
-mod Query
-mod Slot
+pub mod Query
+pub mod Slot
 mod Answer

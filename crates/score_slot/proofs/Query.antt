@@ -1,18 +1,23 @@
 -- A query's refusals before any score, test by test, and what follows where there is none.
 use mathlib.Core.Path.{_≡_, refl, _∙_}
-use mathlib.Core.Bool.{Bool, true, false, cond, _&&_}
+use mathlib.Core.Bool.{Bool, true, false, _&&_}
 use mathlib.Core.List.{List, [], _∷_}
-use Prim.Native.Nat.{ℕ, zero, suc}
+use Prim.Native.Nat.{ℕ, zero, suc, _≤_}
 use native.Mathlib.Omega.{arith}
-use borrow.Author.Tests.{eqb-true}
-use lib.Dec.{eqb}
-use lib.ListN.{length, take}
+use lib.ListN.{length}
 use lib.Ieee.{Float}
-use Rattle.pattern.specs.Binary32.{sumSquares}
+use Rattle.unit.specs.Calls.{rotatable}
+use Rattle.unit.proofs.Rotatable.{is-rotatable, padded-most}
+use Rattle.unit.proofs.Vectors.{has-length}
 use Rattle.encode.specs.declared.Header.{Header}
 use Rattle.encode.specs.Coded.{fault}
+use Rattle.index.specs.declared.Index.{Index}
+use Rattle.index.specs.Arrays.{Arrays}
+use Rattle.index.specs.State.{headerOf}
 use Rattle.index.specs.Codec.{tiny}
+use Rattle.index.specs.Fit.{fit}
 use Rattle.index.specs.Step.{firstOf, when}
+use Rattle.fit.proofs.Meaning.{meaning}
 use Rattle.score_slot.specs.Query.{queryFault}
 
 -- ---- the tests
@@ -53,10 +58,26 @@ module _ (h : Header) (any : Bool) (q : List Float) where
 
 -- ---- no refusal
 
-pub no-fault : (h : Header) (any : Bool) (q : List Float) → queryFault h any q ≡ 0 → fault h q ≡ 0
+no-fault : (h : Header) (any : Bool) (q : List Float) → queryFault h any q ≡ 0 → fault h q ≡ 0
 unfolding queryFault firstOf
 no-fault h any q e = go (fault h q) (tiny h && any) e
   where
     go : (n : ℕ) (b : Bool) → firstOf (n ∷ when b 10 ∷ []) ≡ 0 → n ≡ 0
     go zero b f = refl
     go (suc n) b f = absurd (let z : suc n ≡ 0 = f in omega arith)
+
+module _ (x : Index) (a : Arrays) (e : fit x a ≡ true) where
+  pub width-in : (4 ≤ x .bits) × (x .bits ≤ 6)
+  width-in = let f = meaning x a .yes e .fields in (f .bits, f .bits-high)
+
+  -- what preparing the query asks for
+  pub query-rotatable : (any : Bool) (q : List Float) → queryFault (headerOf x) any q ≡ 0 → rotatable (x .«working_dim») (length q) 4096 ≡ true
+  query-rotatable any q accepted =
+      let f = meaning x a .yes e .fields in
+      let few : x .«working_dim» ≤ 4096 = omega (arith, f .working-high, f .dim-high) in
+      is-rotatable (record {
+        some = f .working;
+        most = few;
+        has = omega (arith, f .working-high, has-length (x .dim) (x .«working_dim») q (no-fault (headerOf x) any q accepted));
+        room = padded-most (x .«working_dim») few;
+      })

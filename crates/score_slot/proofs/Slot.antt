@@ -1,13 +1,15 @@
 -- What is lent for a slot's score: its stages as the arrays hold them, and the prepared query.
-use mathlib.Core.Path.{_≡_, sym, ap, _∙_}
-use mathlib.Core.Bool.{Bool, true, false, cond}
+use mathlib.Core.Path.{_≡_, refl, sym, ap, _∙_}
+use mathlib.Core.Bool.{Bool, true, false, cond, _&&_}
 use mathlib.Core.List.{List}
 use mathlib.Core.Option.{none, some}
 use Prim.Native.Nat.{ℕ, _-_, _≤_}
 use native.Mathlib.Nat.{sub-zero}
 use lib.ListN.{length, take, drop, getD}
 use lib.Seq.{take-append-seam}
+use lib.Dec.{leb}
 use lib.Ieee.{Float}
+use borrow.Author.Tests.{leb-true}
 use Rattle.lists.specs.Lists.{over}
 use Rattle.rhdh.specs.Padded.{paddedDim}
 use Rattle.lloyd.specs.Tables.{centroidsOf}
@@ -23,32 +25,52 @@ use Rattle.encode.specs.declared.Header.{Header}
 use Rattle.encode.specs.Header.{blockSize}
 use Rattle.encode.specs.Coded.{codeIn}
 use Rattle.score.specs.declared.Scored.{Scored}
-use Rattle.score.specs.Score.{slotScore, judged}
+use Rattle.pattern.specs.Binary32.{_⊕_}
+use Rattle.score.specs.Score.{fitting, ofBlock, rawOfBlock, stageScore, slotScore, judged}
 use Rattle.index.specs.State.{stageAt}
 use Rattle.index.specs.Codec.{scoreOf}
+use Rattle.index.proofs.Marks.{and-left, and-right}
 use Rattle.fit.proofs.Rooms.{in-width}
 
 -- ---- a stage of a slot
 
-module _ (h : Header) (l : 4 ≤ h .width) (m : h .width ≤ 6) where
+module _ (h : Header) (centroids q : List Float) where
+  abbrev scoreBy : Stage → Float
+  scoreBy g = stageScore (h .width) centroids q g
+
   -- the bytes of a slot, as the program asks for them
-  size-is : (p s : ℕ) → p ≡ paddedDim (h .working) → s ≡ atWidth (h .width) (bytesPerVector (h .width) p) → s ≡ blockSize h
-  size-is p s e f = f ∙ in-width (h .width) (bytesPerVector (h .width) p) l m ∙ ap (bytesPerVector (h .width)) e
+  size-is : (p s : ℕ) → 4 ≤ h .width → h .width ≤ 6 → p ≡ paddedDim (h .working) → s ≡ atWidth (h .width) (bytesPerVector (h .width) p) → s ≡ blockSize h
+  size-is p s l m e f = f ∙ in-width (h .width) (bytesPerVector (h .width) p) l m ∙ ap (bytesPerVector (h .width)) e
+
+  -- at any other width the block does not count
+  no-block : (scale : ℕ) (block other : List ℕ) → (leb 4 (h .width) && leb (h .width) 6) ≡ false → scoreBy (stage scale block) ≡ scoreBy (stage scale other)
+  unfolding stageScore rawOfBlock ofBlock fitting
+  no-block scale block other t = rw t
 
   pub stage-lent : (p s : ℕ) → p ≡ paddedDim (h .working) → s ≡ atWidth (h .width) (bytesPerVector (h .width) p) →
-      (scales codes : List ℕ) (i scale : ℕ) (block : List ℕ) → scale ≡ getD scales i 0 → block ≡ blockAt s i codes → stage scale block ≡ stageAt h scales codes i
-  stage-lent p s e f scales codes i scale block g k =
-      let b : block ≡ blockAt (blockSize h) i codes = k ∙ ap (λ (z : ℕ). blockAt z i codes) (size-is p s e f) in
-      λ j. stage (g j) (b j)
+      (scales codes : List ℕ) (i scale : ℕ) (block : List ℕ) → scale ≡ getD scales i 0 → block ≡ blockAt s i codes →
+      scoreBy (stage scale block) ≡ scoreBy (stageAt h scales codes i)
+  stage-lent p s e f scales codes i scale block g k = go (leb 4 (h .width) && leb (h .width) 6) refl
+    where
+      go : (b : Bool) → (leb 4 (h .width) && leb (h .width) 6) ≡ b → scoreBy (stage scale block) ≡ scoreBy (stageAt h scales codes i)
+      go true t =
+          let l : 4 ≤ h .width = leb-true 4 (h .width) (and-left (leb 4 (h .width)) (leb (h .width) 6) t) in
+          let m : h .width ≤ 6 = leb-true (h .width) 6 (and-right (leb 4 (h .width)) (leb (h .width) 6) t) in
+          let b : block ≡ blockAt (blockSize h) i codes = k ∙ ap (λ (z : ℕ). blockAt z i codes) (size-is p s l m e f) in
+          λ j. scoreBy (stage (g j) (b j))
+      go false t = no-block scale block (blockAt (blockSize h) i codes) t ∙ ap (λ (z : ℕ). scoreBy (stage z (blockAt (blockSize h) i codes))) g
 
 -- the second stage counts only where the index is residual
 module _ (w : ℕ) (centroids q : List Float) (first second : Stage) (r : Scored) where
-  pub one-stage : (g : Stage) → g ≡ first → (b : Bool) → b ≡ false → r ≡ judged (slotScore w centroids q g none) → r ≡ judged (slotScore w centroids q first (cond b (some second) none))
-  one-stage g e b f k = k ∙ (λ j. judged (slotScore w centroids q (e j) (cond (sym f j) (some second) none)))
+  pub one-stage : (g : Stage) → stageScore w centroids q g ≡ stageScore w centroids q first → (b : Bool) → b ≡ false →
+      r ≡ judged (slotScore w centroids q g none) → r ≡ judged (slotScore w centroids q first (cond b (some second) none))
+  unfolding slotScore
+  one-stage g e b f k = rw f (k ∙ ap judged e)
 
-  pub two-stages : (g d : Stage) → g ≡ first → d ≡ second → (b : Bool) → b ≡ true → r ≡ judged (slotScore w centroids q g (some d)) →
-      r ≡ judged (slotScore w centroids q first (cond b (some second) none))
-  two-stages g d e o b f k = k ∙ (λ j. judged (slotScore w centroids q (e j) (cond (sym f j) (some (o j)) none)))
+  pub two-stages : (g d : Stage) → stageScore w centroids q g ≡ stageScore w centroids q first → stageScore w centroids q d ≡ stageScore w centroids q second →
+      (b : Bool) → b ≡ true → r ≡ judged (slotScore w centroids q g (some d)) → r ≡ judged (slotScore w centroids q first (cond b (some second) none))
+  unfolding slotScore
+  two-stages g d e o b f k = rw f (k ∙ (λ j. judged (e j ⊕ o j)))
 
 -- ---- the prepared query
 

@@ -63,8 +63,8 @@ fn scale_at(scales: &[u32], slot: usize) -> u32
     0
 }
 
-// The score of a slot under a prepared query.
-fn score_prepared(
+// The score of a slot under a prepared query. At a width other than 4, 5 and 6 no block is looked at.
+pub fn score_prepared(
     index: Index,
     codes: &[u8],
     scales: &[u32],
@@ -74,7 +74,6 @@ fn score_prepared(
     centroids: &[f32],
     query: &[f32],
 ) -> Scored
-    requires { ⌜ (4 ≤ index .bits) × (index .bits ≤ 6) ⌝ }
     ensures { λ r. ⌜
         r ≡ judged (slotScore (index .bits) (now (centroids .entry)) (now (query .entry))
         (stageAt (headerOf index) (now (scales .entry)) (now (codes .entry)) slot)

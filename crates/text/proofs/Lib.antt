@@ -1,7 +1,6 @@
 -- Laws that the proofs of several functions cite.
 mod Filling
 mod Split
-mod Places
 pub mod RoundTrip
 mod Runs
 mod Value

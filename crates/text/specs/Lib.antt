@@ -1,4 +1,3 @@
--- What the contracts of this crate cite: how a line is taken apart, how its fields are read, and how an answer is printed.
+-- What the contracts of this crate cite: how a line is taken apart, and how its fields are read.
 pub mod Fields
-pub mod Printed
 pub mod Reading

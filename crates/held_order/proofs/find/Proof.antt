@@ -4,7 +4,7 @@ use Prim.Native.Nat.{suc, _-_}
 use native.Mathlib.Omega.{arith}
 use lib.ListN.{getD}
 use borrow.Author.Needs.{needs}
-use Rattle.held_order.proofs.Chains.{Walk, walk-start, walk-keyed, walk-on, walk-found, walk-none}
+use Rattle.chains.proofs.Chains.{Walk, walk-start, walk-keyed, walk-on, walk-found, walk-none}
 use Rattle.held_order.proofs.find.Statement.{statement}
 use Rattle.held_order.proofs.find.Tie as tie
 

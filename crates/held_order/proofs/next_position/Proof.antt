@@ -2,7 +2,7 @@
 use Prim.Native.Nat.{_-_}
 use native.Mathlib.Omega.{arith}
 use borrow.Author.Needs.{needs}
-use Rattle.held_order.proofs.Chains.{after-slot}
+use Rattle.held_order.proofs.Positions.{after-slot}
 use Rattle.held_order.proofs.next_position.Statement.{statement}
 use Rattle.held_order.proofs.next_position.Tie as tie
 

@@ -2,7 +2,8 @@
 use mathlib.Core.Path.{sym, ap, _∙_}
 use Prim.Native.Nat.{ℕ}
 use lib.ListN.{set}
-use Rattle.held_order.proofs.Chains.{position-unkeyed, chains-unkeyed}
+use Rattle.chains.proofs.Chains.{chains-unkeyed}
+use Rattle.held_order.proofs.Positions.{position-unkeyed}
 use borrow.Author.Needs.{needs}
 use Rattle.held_order.proofs.place.Statement.{statement}
 use Rattle.held_order.proofs.place.Tie as tie

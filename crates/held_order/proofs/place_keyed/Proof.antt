@@ -3,7 +3,8 @@ use mathlib.Core.Path.{ap, _∙_}
 use Prim.Native.Nat.{ℕ}
 use native.Mathlib.Omega.{arith}
 use lib.ListN.{set}
-use Rattle.held_order.proofs.Chains.{position-keyed, placed-small, chain-head, chains-entered}
+use Rattle.chains.proofs.Chains.{chain-head, chains-entered}
+use Rattle.held_order.proofs.Positions.{position-keyed, placed-small}
 use borrow.Author.Needs.{needs}
 use Rattle.held_order.proofs.place_keyed.Statement.{statement}
 use Rattle.held_order.proofs.place_keyed.Tie as tie

@@ -1,9 +1,10 @@
 -- `score_slot::score` meets its contract.
-use mathlib.Core.Path.{sym}
+use mathlib.Core.Path.{sym, _∙_}
 use Rattle.unit.proofs.Rotatable.{says-no, says-yes}
 use Rattle.index.specs.State.{slotAt}
 use Rattle.index.proofs.Calls.{call-misfit}
-use Rattle.score_slot.proofs.Answer.{score-refused, score-past, score-in, width-in, query-rotatable}
+use Rattle.score_slot.proofs.Query.{width-in, query-rotatable}
+use Rattle.score_slot.proofs.Answer.{score-refused, score-past, score-in}
 use borrow.Author.Needs.{needs}
 use Rattle.score_slot.proofs.score.Statement.{statement}
 use Rattle.score_slot.proofs.score.Tie as tie
@@ -27,7 +28,7 @@ score-by-width-requires : tie.Need-score-by-width-requires
 score-by-width-requires c κs =
     let e = says-yes (c .before .before .before .before .before .fits2 .ensures) (c .before .before .before .before .if1 .left) in
     let f = c .before .before .query-fault .ensures in
-    (width-in _ _ e, query-rotatable _ _ e _ _ _ f (c .before .if2 .left))
+    (width-in _ _ e, query-rotatable _ _ e _ _ (sym f ∙ c .before .if2 .left))
 
 returns-3 : tie.Need-returns-3
 unfolding slotAt

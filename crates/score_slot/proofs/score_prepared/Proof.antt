@@ -34,7 +34,7 @@ returns c =
     let block = c .before .before .before .before .slot-codes in
     let scale2 = c .before .before .scale-at2 in
     let block2 = c .before .slot-codes2 in
-    let lent = stage-lent (headerOf (s .args .index)) (s .pre .0) (s .pre .1) _ _ (c .before .before .before .before .before .before .before .padded-dim .ensures) (c .before .before .before .before .before .before .bytes-per-vector .ensures) in
+    let lent = stage-lent (headerOf (s .args .index)) (now (s .args .centroids)) (now (s .args .query)) _ _ (c .before .before .before .before .before .before .before .padded-dim .ensures) (c .before .before .before .before .before .before .bytes-per-vector .ensures) in
     two-stages _ _ _ _ _ _ _ _
     (lent (now (s .args .scales)) (now (s .args .codes)) (s .args .slot) (scale .result) (now (block .result)) (scale .ensures) (block .ensures))
     (lent (now (s .args .scales2)) (now (s .args .codes2)) (s .args .slot) (scale2 .result) (now (block2 .result)) (scale2 .ensures) (block2 .ensures))
@@ -48,7 +48,7 @@ returns-2 c =
     let s = c .before .before .before .before .before .before .before .before .before .before .before .before in
     let scale = c .before .before .before .scale-at in
     let block = c .before .before .slot-codes in
-    let lent = stage-lent (headerOf (s .args .index)) (s .pre .0) (s .pre .1) _ _ (c .before .before .before .before .before .padded-dim .ensures) (c .before .before .before .before .bytes-per-vector .ensures) in
+    let lent = stage-lent (headerOf (s .args .index)) (now (s .args .centroids)) (now (s .args .query)) _ _ (c .before .before .before .before .before .padded-dim .ensures) (c .before .before .before .before .bytes-per-vector .ensures) in
     one-stage _ _ _ _ (stageAt (headerOf (s .args .index)) (now (s .args .scales2)) (now (s .args .codes2)) (s .args .slot)) _ _
     (lent (now (s .args .scales)) (now (s .args .codes)) (s .args .slot) (scale .result) (now (block .result)) (scale .ensures) (block .ensures))
     _ (c .before .if1 .left) (c .score .ensures)

@@ -1,0 +1,2 @@
+-- What a search tests before any score.
+pub mod Faults

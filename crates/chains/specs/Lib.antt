@@ -1,0 +1,2 @@
+-- Chains of places by their keys.
+pub mod Chains

@@ -1,0 +1,4 @@
+-- Laws of the keyed list.
+pub mod KeyedList
+mod Places
+mod Writing

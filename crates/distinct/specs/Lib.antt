@@ -1,0 +1,3 @@
+-- The keyed list of listed slots.
+pub mod Distinct
+pub mod Places

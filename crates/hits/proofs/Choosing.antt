@@ -1,0 +1,116 @@
+-- From the order numbers in the working array to the choice among the marked slots.
+use mathlib.Core.Path.{_≡_, refl, sym, ap, _∙_, subst}
+use mathlib.Core.Bool.{Bool, true, false}
+use mathlib.Core.List.{List, [], _∷_, map, map-map, map-id}
+use Prim.Native.Nat.{ℕ, _<_}
+use native.Mathlib.Nat.{zero-add}
+use lib.Dec.{T, ltb}
+use lib.ListN.{length, getD}
+use lib.Ieee.{Float, binary32, fits, isNan}
+use borrow.Author.Tests.{lt-ltb}
+use Rattle.pattern.specs.Binary32.{+0}
+use Rattle.lists.specs.Lists.{tab}
+use Rattle.lists.specs.Keep.{keep, numbered, Each}
+use Rattle.lists.proofs.Laws.{length-tab, getD-tab}
+use Rattle.lists.proofs.Keep.{each-keep, each-kept, length-numbered, getD-numbered}
+use Rattle.lists.proofs.Front.{map-tab, tab-is, each-tab}
+use Rattle.choose.specs.Choose.{choose}
+use Rattle.choose.proofs.Choice.{choose-map, choose-each}
+use Rattle.score.specs.Order.{orderNumber}
+use Rattle.score.proofs.Order.{number-positive}
+use Rattle.held.specs.Held.{below}
+use Rattle.choose_slots.specs.Slots as Slots
+use Rattle.choose_slots.specs.Slots.{listed}
+use Rattle.hits.specs.Hits.{marked, entered, chosen}
+use Rattle.hits.specs.Steps.{scoreEntry, orderEntry}
+use Rattle.hits.proofs.Entering.{nanAt}
+
+-- ---- lists
+
+-- a table's entries are numbered by their places
+numbered-tab : {X : Type 0} (f : ℕ → X) (n : ℕ) → numbered 0 (tab f n) ≡ map (λ i. (i, f i)) (below n)
+numbered-tab {X} f n =
+    sym (tab-is (λ i. (i, f i)) (numbered 0 (tab f n)) (λ i d l. sym (at i d (rw (length-numbered 0 (tab f n)) at l))))
+    ∙ ap (tab (λ i. (i, f i))) (length-numbered 0 (tab f n) ∙ length-tab f n) ∙ sym (map-tab (λ i. (i, f i)) (λ i. i) n)
+  where
+    at : (i : ℕ) (d : ℕ × X) → i < length (tab f n) → getD (numbered 0 (tab f n)) i d ≡ (i, f i)
+    at i d l = getD-numbered 0 (tab f n) i d l ∙ rw (zero-add i, getD-tab f n i (d .1) (rw (length-tab f n) at l))
+
+pub map-each-same : {X Y : Type 0} (f g : X → Y) (xs : List X) → Each (λ x. f x ≡ g x) xs → map f xs ≡ map g xs
+map-each-same f g [] h = refl
+map-each-same f g (x ∷ xs) h = rw (h .0, map-each-same f g xs (h .1))
+
+entry-own : (score : ℕ → Float) (marks : List ℕ) (i : ℕ) → marked marks i ≡ true → scoreEntry score marks i ≡ score i
+unfolding scoreEntry
+entry-own score marks i m = rw m
+
+-- ---- the choice, by slot numbers
+
+module _ (score : ℕ → Float) (marks : List ℕ) where
+  abbrev order : ℕ → ℕ
+  order i = orderNumber (score i)
+
+  -- the slots that take part
+  abbrev taking : ℕ → List ℕ
+  taking n = keep (marked marks) (below n)
+
+  -- the chosen slots
+  abbrev pub picks : (n k : ℕ) → List ℕ
+  picks n k = choose order k (taking n)
+
+  pub chosen-picks : (n k : ℕ) → chosen score marks n k ≡ map (λ i. (i, score i)) (picks n k)
+  unfolding entered
+  chosen-picks n k = choose-map (λ (e : ℕ × Float). orderNumber (e .1)) (λ (i : ℕ). (i, score i)) k (taking n)
+
+  pub chosen-slots : (n k : ℕ) → map (λ e. e .0) (chosen score marks n k) ≡ picks n k
+  chosen-slots n k =
+      ap (map (λ (e : ℕ × Float). e .0)) (chosen-picks n k) ∙ map-map (λ (e : ℕ × Float). e .0) (λ (i : ℕ). (i, score i)) (picks n k) ∙ map-id (picks n k)
+
+  pub chosen-scores : (n k : ℕ) → map (λ e. e .1) (chosen score marks n k) ≡ map score (picks n k)
+  chosen-scores n k = ap (map (λ (e : ℕ × Float). e .1)) (chosen-picks n k) ∙ map-map (λ (e : ℕ × Float). e .1) (λ (i : ℕ). (i, score i)) (picks n k)
+
+  module _ (float : (i : ℕ) → T (fits binary32 (score i))) where
+    abbrev entry : ℕ → ℕ × ℕ
+    entry i = (i, orderEntry score marks i)
+
+    -- a slot that takes part has an order number above 0, as no score is NaN
+    kept : (is : List ℕ) → Each (λ i. nanAt score marks i ≡ false) is →
+        keep (λ e. ltb 0 (e .1)) (map entry is) ≡ map (λ i. (i, order i)) (keep (marked marks) is)
+    unfolding orderEntry
+    kept [] none = refl
+    kept (i ∷ is) none =
+        go (marked marks i) refl (isNan (score i)) refl (none .0) (kept is (none .1))
+      where
+        go : (b : Bool) → marked marks i ≡ b → (c : Bool) → isNan (score i) ≡ c → nanAt score marks i ≡ false →
+            keep (λ e. ltb 0 (e .1)) (map entry is) ≡ map (λ i. (i, order i)) (keep (marked marks) is) →
+            keep (λ e. ltb 0 (e .1)) (map entry (i ∷ is)) ≡ map (λ i. (i, order i)) (keep (marked marks) (i ∷ is))
+        go false e c f none ih = rw e ih
+        go true e true f none ih = absurd (subst T (rw (e, f) at none) tt)
+        go true e false f none ih = rw (e, lt-ltb 0 (order i) (number-positive (score i) (float i) f), ih)
+
+    pub listed-picks : (n k : ℕ) → Each (λ i. nanAt score marks i ≡ false) (below n) → listed (tab (orderEntry score marks) n) k ≡ picks n k
+    unfolding listed Slots.entered
+    listed-picks n k none =
+        let few : Slots.entered (tab (orderEntry score marks) n) ≡ map (λ i. (i, order i)) (taking n) =
+        ap (keep (λ (e : ℕ × ℕ). ltb 0 (e .1))) (numbered-tab (orderEntry score marks) n) ∙ kept (below n) none in
+        ap (λ (es : List (ℕ × ℕ)). map (λ e. e .0) (choose (λ e. e .1) k es)) few
+        ∙ ap (map (λ (e : ℕ × ℕ). e .0)) (choose-map (λ (e : ℕ × ℕ). e .1) (λ (i : ℕ). (i, order i)) k (taking n))
+        ∙ map-map (λ (e : ℕ × ℕ). e .0) (λ (i : ℕ). (i, order i)) (picks n k) ∙ map-id (picks n k)
+
+  -- their scores stand in the working array
+  pub picks-scores : (n k : ℕ) → map (λ i. getD (tab (scoreEntry score marks) n) i +0) (picks n k) ≡ map score (picks n k)
+  picks-scores n k = map-each-same read (scoreEntry score marks) (picks n k) entries ∙ map-each-same (scoreEntry score marks) score (picks n k) own
+    where
+      read : ℕ → Float
+      read i = getD (tab (scoreEntry score marks) n) i +0
+
+      entries : Each (λ i. read i ≡ scoreEntry score marks i) (picks n k)
+      entries =
+          choose-each order k (taking n) (λ i. read i ≡ scoreEntry score marks i)
+          (each-keep (λ i. read i ≡ scoreEntry score marks i) (marked marks) (below n)
+          (each-tab (λ i. read i ≡ scoreEntry score marks i) (λ i. i) n (λ i l. getD-tab (scoreEntry score marks) n i +0 l)))
+
+      own : Each (λ i. scoreEntry score marks i ≡ score i) (picks n k)
+      own =
+          choose-each order k (taking n) (λ i. scoreEntry score marks i ≡ score i)
+          (each-kept (λ i. scoreEntry score marks i ≡ score i) (marked marks) (below n) (entry-own score marks))

@@ -1,0 +1,6 @@
+-- Laws of the list of hits.
+pub mod Entering
+pub mod Choosing
+mod Query
+mod Writing
+mod Answer

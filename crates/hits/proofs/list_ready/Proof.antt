@@ -1,0 +1,108 @@
+-- `hits::list_ready` meets its contract.
+use mathlib.Core.Path.{ap, _∙_}
+use Prim.Native.Nat.{ℕ, _-_, _≤_}
+use native.Mathlib.Omega.{arith}
+use lib.ListN.{take}
+use lib.Ieee.{Float}
+use denote.Ref.{now}
+use borrow.Author.Tests.{not-true, not-false}
+use Rattle.unit.proofs.Rotatable.{says-no, says-yes}
+use Rattle.index.specs.State.{headerOf}
+use Rattle.hits.specs.Hits.{scoreAt}
+use Rattle.hits.specs.Steps.{scoreEntry, orderEntry}
+use Rattle.hits.proofs.Query.{scores-fit}
+use Rattle.hits.proofs.Writing.{front-tab}
+use Rattle.hits.proofs.Answer.{ready-few, ready-rotatable, some-nan, all-sound}
+use borrow.Author.Needs.{needs}
+use Rattle.hits.proofs.list_ready.Statement.{statement}
+use Rattle.hits.proofs.list_ready.Tie as tie
+
+few : (s : tie.Start) → s .args .index .n ≤ 65536
+few s = ready-few _ _ _ _ (s .pre)
+
+abbrev scores : tie.Start → ℕ → Float
+scores s = scoreAt (headerOf (s .args .index)) (now (s .args .codes)) (now (s .args .scales)) (now (s .args .codes2)) (now (s .args .scales2)) (now (s .args .query))
+
+slot-floats-requires : tie.Need-slot-floats-requires
+slot-floats-requires c κs = search needs
+
+slot-words-requires : tie.Need-slot-words-requires
+slot-words-requires c κs = search needs
+
+slice-aggregate-enter-all : tie.Need-slice-aggregate-enter-all
+slice-aggregate-enter-all c = search needs
+
+slice-aggregate-enter-all-2 : tie.Need-slice-aggregate-enter-all-2
+slice-aggregate-enter-all-2 c = search needs
+
+enter-all-requires : tie.Need-enter-all-requires
+enter-all-requires c κs =
+    let s = c .before .before .before .before .before .before .before .before .before .before .before .before in
+    ((omega (arith, few s, c .before .before .before .slot-floats .ok), omega (arith, few s, c .before .before .slot-words .ok)), ready-rotatable _ _ _ _ (s .pre))
+
+returns : tie.Need-returns
+returns c =
+    let s = c .before .before .before .before .before .before .before .before .before .before .before .before .before .before .before .before in
+    some-nan (scores s) (now (s .args .marks)) (s .args .index .n) (s .args .k) (now (s .args .slots)) (now (s .args .scores)) (not-false _ (says-no (c .before .before .before .enter-all .ensures .sound) (c .if1 .taken)))
+
+sub-write-hits : tie.Need-sub-write-hits
+sub-write-hits c = search needs
+
+part-write-hits-start : tie.Need-part-write-hits-start
+part-write-hits-start c = search needs
+
+part-write-hits-end : tie.Need-part-write-hits-end
+part-write-hits-end c = omega (arith, few (c .before .before .before .before .before .before .before .before .before .before .before .before .before .before .before .before .before), c .before .before .before .before .enter-all .kept, c .before .before .before .before .before .before .before .before .slot-floats .ok)
+
+sub-write-hits-2 : tie.Need-sub-write-hits-2
+sub-write-hits-2 c = search needs
+
+part-write-hits-start-2 : tie.Need-part-write-hits-start-2
+part-write-hits-start-2 c = search needs
+
+part-write-hits-end-2 : tie.Need-part-write-hits-end-2
+part-write-hits-end-2 c = omega (arith, few (c .before .before .before .before .before .before .before .before .before .before .before .before .before .before .before .before .before .before .before), c .before .before .before .before .before .before .enter-all .kept, c .before .before .before .before .before .before .before .before .before .slot-words .ok)
+
+write-hits-requires : tie.Need-write-hits-requires
+write-hits-requires c κs = search needs
+
+same-length : tie.Need-same-length
+same-length c = search needs
+
+same-length-2 : tie.Need-same-length-2
+same-length-2 c = search needs
+
+returns-2 : tie.Need-returns-2
+returns-2 c =
+    let s = c .before .before .before .before .before .before .before .before .before .before .before .before .before .before .before .before .before .before .before .before .before .before .before .before .before .before .before in
+    let n = s .args .index .n in
+    let marks = now (s .args .marks) in
+    let entered = c .before .before .before .before .before .before .before .before .before .before .before .before .before .before .enter-all in
+    let sound = not-false (entered .result) (c .before .before .before .before .before .before .before .before .before .before .before .if1 .left) in
+    all-sound (scores s) marks n (s .args .k) (now (s .args .slots)) (now (s .args .scores))
+    (scores-fit (headerOf (s .args .index)) (now (s .args .codes)) (now (s .args .scales)) (now (s .args .codes2)) (now (s .args .scales2)) (now (s .args .query)))
+    (few s) (not-true _ (says-yes (entered .ensures .sound) (c .before .before .before .before .before .before .before .before .before .before .before .if1 .left))) _ _
+    (ap (take (n - 0)) (entered .ensures .scores-in sound) ∙ front-tab (scoreEntry (scores s) marks) n _)
+    (ap (take (n - 0)) (entered .ensures .orders-in sound) ∙ front-tab (orderEntry (scores s) marks) n _)
+    _ _ _ (c .before .before .before .before .write-hits .ensures)
+
+pub list-ready-spec : {M : Type 1} → statement M
+list-ready-spec =
+    tie.close
+    (tie.spec
+    slot-floats-requires
+    slot-words-requires
+    slice-aggregate-enter-all
+    slice-aggregate-enter-all-2
+    enter-all-requires
+    returns
+    sub-write-hits
+    part-write-hits-start
+    part-write-hits-end
+    sub-write-hits-2
+    part-write-hits-start-2
+    part-write-hits-end-2
+    write-hits-requires
+    same-length
+    same-length-2
+    returns-2)

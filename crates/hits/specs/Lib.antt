@@ -1,0 +1,3 @@
+-- The list of hits among marked slots, and the words of the steps on the way.
+pub mod Hits
+pub mod Steps

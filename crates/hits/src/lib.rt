@@ -1,0 +1,304 @@
+// The hits among marked slots: a slot takes part where its mark is not 0. Searches mark the live slots, cascades the nearest of them.
+//
+// Scores and order numbers of all slots stand in two working arrays, and no place is written before every score is known to be no NaN.
+ghost use mathlib.Core.Path.{_≡_};
+ghost use mathlib.Core.Bool.{true};
+ghost use mathlib.Core.List.{map};
+ghost use Prim.Native.Nat.{_≤_, _<_, min};
+ghost use lib.ListN.{length, getD};
+ghost use Rattle.pattern.specs.Binary32.{+0};
+ghost use Rattle.lists.specs.Lists.{over};
+ghost use Rattle.lists.specs.Keep.{Each};
+ghost use Rattle.unit.specs.Calls.{rotatable};
+ghost use Rattle.index.specs.State.{headerOf};
+ghost use Rattle.hits.specs.Hits.{scoreAt, marked, listAnswer, shown, ready};
+ghost use Rattle.hits.specs.Steps.{scorePrepared, EntersSlot, EntersSlots, WritesHits, Lists};
+use index::Found;
+use index::Index;
+use score::Scored;
+
+// ---- whether the call can be made
+
+fn is_ready(index: Index, entries: usize) -> bool
+    ensures { λ r. ⌜ r ≡ ready (index .n) (index .bits) (index .«working_dim») entries ⌝ }
+{
+    if 65536 < index.n {
+        return false;
+    }
+    if index.bits < 4 {
+        return false;
+    }
+    if 6 < index.bits {
+        return false;
+    }
+    unit::is_rotatable(index.working_dim, entries, 4096)
+}
+
+// ---- the working arrays
+
+// Their contents don't matter.
+fn query_floats() -> [f32; 4096] {
+    [0.0; 4096]
+}
+
+fn slot_floats() -> [f32; 65536] {
+    [0.0; 65536]
+}
+
+fn slot_words() -> [u32; 65536] {
+    [0; 65536]
+}
+
+// A slot past the end of the marks takes no part.
+fn is_marked(marks: &[u8], slot: usize) -> bool
+    ensures { λ r. ⌜ r ≡ marked (now (marks .entry)) slot ⌝ }
+{
+    if slot < marks.len() {
+        return 0 < marks[slot];
+    }
+    false
+}
+
+// Enters a slot into the working arrays. False where it takes part and its score is NaN.
+fn enter_slot(
+    index: Index,
+    codes: &[u8],
+    scales: &[u32],
+    codes2: &[u8],
+    scales2: &[u32],
+    marks: &[u8],
+    slot: usize,
+    centroids: &[f32],
+    prepared: &[f32],
+    all: &mut [f32],
+    orders: &mut [u32],
+) -> bool
+    requires { ⌜ (slot < length (now all)) × (slot < length (now orders)) ⌝ }
+    ensures { λ r. ⌜
+        EntersSlot (scorePrepared (headerOf index) (now (codes .entry)) (now (scales .entry)) (now (codes2 .entry)) (now (scales2 .entry))
+        (now (centroids .entry)) (now (prepared .entry)))
+        (now (marks .entry)) slot (now (all .entry)) (now (all .exit)) (now (orders .entry)) (now (orders .exit)) r ⌝ }
+{
+    if !is_marked(marks, slot) {
+        all[slot] = 0.0;
+        orders[slot] = 0;
+        return true;
+    }
+    let scored = score_slot::score_prepared(
+        index,
+        codes,
+        scales,
+        codes2,
+        scales2,
+        slot,
+        centroids,
+        prepared,
+    );
+    let Scored::Score(score) = scored else {
+        return false;
+    };
+    all[slot] = score;
+    orders[slot] = score::order_number(score);
+    true
+}
+
+// Enters the slots below n under a prepared query. False, at the first NaN, where one of them that takes part has a NaN for its score.
+fn enter_slots(
+    index: Index,
+    codes: &[u8],
+    scales: &[u32],
+    codes2: &[u8],
+    scales2: &[u32],
+    marks: &[u8],
+    n: usize,
+    centroids: &[f32],
+    prepared: &[f32],
+    all: &mut [f32],
+    orders: &mut [u32],
+) -> bool
+    requires { ⌜ (n ≤ length (now all)) × (n ≤ length (now orders)) ⌝ }
+    ensures { λ r. ⌜
+        EntersSlots (scorePrepared (headerOf index) (now (codes .entry)) (now (scales .entry)) (now (codes2 .entry)) (now (scales2 .entry))
+        (now (centroids .entry)) (now (prepared .entry)))
+        (now (marks .entry)) n (now (all .entry)) (now (all .exit)) (now (orders .entry)) (now (orders .exit)) r ⌝ }
+{
+    let mut i = 0;
+    while i < n {
+        if !enter_slot(
+            index,
+            codes,
+            scales,
+            codes2,
+            scales2,
+            marks,
+            i,
+            centroids,
+            prepared,
+            all,
+            orders,
+        ) {
+            return false;
+        }
+        i += 1;
+    }
+    true
+}
+
+// Enters the slots in use under a query.
+fn enter_all(
+    index: Index,
+    codes: &[u8],
+    scales: &[u32],
+    codes2: &[u8],
+    scales2: &[u32],
+    marks: &[u8],
+    query: &[f32],
+    all: &mut [f32],
+    orders: &mut [u32],
+) -> bool
+    requires { ⌜ (index .n ≤ length (now all)) × (index .n ≤ length (now orders)) ⌝ }
+    requires { ⌜ rotatable (index .«working_dim») (length (now query)) 4096 ≡ true ⌝ }
+    ensures { λ r. ⌜
+        EntersSlots (scoreAt (headerOf index) (now (codes .entry)) (now (scales .entry)) (now (codes2 .entry)) (now (scales2 .entry)) (now (query .entry)))
+        (now (marks .entry)) (index .n) (now (all .entry)) (now (all .exit)) (now (orders .entry)) (now (orders .exit)) r ⌝ }
+{
+    let levels = lloyd::levels(index.bits);
+    let centroids = lloyd::centroids(index.bits);
+    let padded = rhdh::padded_dim(index.working_dim);
+    let mut prepared = query_floats();
+    unit::prepare(index.working_dim, index.seed, query, &mut prepared);
+    enter_slots(
+        index,
+        codes,
+        scales,
+        codes2,
+        scales2,
+        marks,
+        index.n,
+        &centroids[0..levels],
+        &prepared[0..padded],
+        all,
+        orders,
+    )
+}
+
+// ---- the list
+
+// The score of each of these slots, in the first places of `scores`.
+fn write_scores(all: &[f32], slots: &[u32], scores: &mut [f32])
+    requires { ⌜ Each (λ i. i < length (now all)) (now slots) ⌝ }
+    requires { ⌜ length (now slots) ≤ length (now scores) ⌝ }
+    ensures { λ _. ⌜ now (scores .exit) ≡ over (map (λ i. getD (now (all .entry)) i +0) (now (slots .entry))) (now (scores .entry)) ⌝ }
+{
+    let mut i = 0;
+    while i < slots.len() {
+        let slot = slots[i] as usize;
+        scores[i] = all[slot];
+        i += 1;
+    }
+}
+
+fn fewer(a: usize, b: usize) -> usize
+    ensures { λ r. ⌜ r ≡ min a b ⌝ }
+{
+    if a < b {
+        return a;
+    }
+    b
+}
+
+// Writes the chosen slots and their scores, by scores and order numbers of the slots, and returns how many there are.
+// Writes nothing and returns 0 where there are fewer places.
+fn write_hits(all: &[f32], orders: &[u32], k: usize, slots: &mut [u32], scores: &mut [f32]) -> usize
+    requires { ⌜ length (now all) ≡ length (now orders) ⌝ }
+    ensures { λ r. ⌜
+        WritesHits (now (all .entry)) (now (orders .entry)) k (now (slots .entry)) (now (slots .exit)) (now (scores .entry)) (now (scores .exit)) r ⌝ }
+{
+    let places = fewer(slots.len(), scores.len());
+    let n = choose_slots::choose(orders, k, &mut slots[0..places]);
+    write_scores(all, &slots[0..n], scores);
+    n
+}
+
+// The call where it can be made.
+fn list_ready(
+    index: Index,
+    codes: &[u8],
+    scales: &[u32],
+    codes2: &[u8],
+    scales2: &[u32],
+    marks: &[u8],
+    query: &[f32],
+    k: usize,
+    slots: &mut [u32],
+    scores: &mut [f32],
+) -> Found
+    requires { ⌜ ready (index .n) (index .bits) (index .«working_dim») (length (now query)) ≡ true ⌝ }
+    ensures { λ r. ⌜
+        Lists (scoreAt (headerOf index) (now (codes .entry)) (now (scales .entry)) (now (codes2 .entry)) (now (scales2 .entry)) (now (query .entry)))
+        (now (marks .entry)) (index .n) k (now (slots .entry)) (now (slots .exit)) (now (scores .entry)) (now (scores .exit)) r ⌝ }
+{
+    let n = index.n;
+    let mut all = slot_floats();
+    let mut orders = slot_words();
+    if !enter_all(
+        index,
+        codes,
+        scales,
+        codes2,
+        scales2,
+        marks,
+        query,
+        &mut all,
+        &mut orders,
+    ) {
+        return Found::Refused(12);
+    }
+    let hits = write_hits(&all[0..n], &orders[0..n], k, slots, scores);
+    Found::Hits(hits)
+}
+
+// The hits of the marked slots in the first places of `slots` and `scores`, or the number of the refusal.
+pub fn list(
+    index: Index,
+    codes: &[u8],
+    scales: &[u32],
+    codes2: &[u8],
+    scales2: &[u32],
+    marks: &[u8],
+    query: &[f32],
+    k: usize,
+    slots: &mut [u32],
+    scores: &mut [f32],
+) -> Found
+    ensures { λ r. ⌜
+        r ≡ listAnswer (scoreAt (headerOf index) (now (codes .entry)) (now (scales .entry)) (now (codes2 .entry)) (now (scales2 .entry)) (now (query .entry)))
+        (now (marks .entry)) (index .n) (ready (index .n) (index .bits) (index .«working_dim») (length (now (query .entry)))) k
+        (min (length (now (slots .entry))) (length (now (scores .entry)))) ⌝ }
+    ensures { λ r. ⌜
+        now (slots .exit) ≡ over (map (λ e. e .0)
+        (shown (scoreAt (headerOf index) (now (codes .entry)) (now (scales .entry)) (now (codes2 .entry)) (now (scales2 .entry)) (now (query .entry)))
+        (now (marks .entry)) (index .n) (ready (index .n) (index .bits) (index .«working_dim») (length (now (query .entry)))) k
+        (min (length (now (slots .entry))) (length (now (scores .entry)))))) (now (slots .entry)) ⌝ }
+    ensures { λ r. ⌜
+        now (scores .exit) ≡ over (map (λ e. e .1)
+        (shown (scoreAt (headerOf index) (now (codes .entry)) (now (scales .entry)) (now (codes2 .entry)) (now (scales2 .entry)) (now (query .entry)))
+        (now (marks .entry)) (index .n) (ready (index .n) (index .bits) (index .«working_dim») (length (now (query .entry)))) k
+        (min (length (now (slots .entry))) (length (now (scores .entry)))))) (now (scores .entry)) ⌝ }
+{
+    if !is_ready(index, query.len()) {
+        return Found::Refused(13);
+    }
+    list_ready(
+        index,
+        codes,
+        scales,
+        codes2,
+        scales2,
+        marks,
+        query,
+        k,
+        slots,
+        scores,
+    )
+}

@@ -1,0 +1,66 @@
+// Search (document 01, store.rs): the live slots that score highest under a query, with their scores.
+ghost use mathlib.Core.Path.{_≡_};
+ghost use Prim.Native.Nat.{min};
+ghost use lib.ListN.{length};
+ghost use Rattle.index.specs.Arrays.{lent};
+ghost use Rattle.index.specs.Step as Step;
+ghost use Rattle.index.specs.Call.{call};
+ghost use Rattle.index.specs.Answers.{filed, files};
+use index::Found;
+use index::Index;
+
+// Writes the chosen slots' numbers and scores to the first places of `slots` and `scores`, and answers how many they are.
+// Refused by 13, 1, 2, 3, 10 and 12 in this order.
+pub fn search(
+    index: Index,
+    codes: &[u8],
+    scales: &[u32],
+    keys: &[u64],
+    keyed: &[bool],
+    held: &[u32],
+    alive: &[u8],
+    codes2: &[u8],
+    scales2: &[u32],
+    query: &[f32],
+    k: usize,
+    slots: &mut [u32],
+    scores: &mut [f32],
+) -> Found
+    ensures { λ r. ⌜
+        filed index (lent (codes .entry) (scales .entry) (keys .entry) (keyed .entry) (held .entry) (alive .entry) (codes2 .entry) (scales2 .entry))
+        r (now (slots .exit)) (now (scores .exit))
+        ≡ files (call index (lent (codes .entry) (scales .entry) (keys .entry) (keyed .entry) (held .entry) (alive .entry) (codes2 .entry) (scales2 .entry))
+        (Step.search (now (query .entry)) k (min (length (now (slots .entry))) (length (now (scores .entry))))))
+        (now (slots .entry)) (now (scores .entry)) ⌝ }
+{
+    let fault = asking::search_fault(
+        index,
+        codes,
+        scales,
+        keys,
+        keyed,
+        held,
+        alive,
+        codes2,
+        scales2,
+        query,
+        k,
+        slots.len(),
+        scores.len(),
+    );
+    if fault != 0 {
+        return Found::Refused(fault);
+    }
+    hits::list(
+        index,
+        codes,
+        scales,
+        codes2,
+        scales2,
+        alive,
+        query,
+        k,
+        slots,
+        scores,
+    )
+}

@@ -1,0 +1,2 @@
+-- Laws of the call `search_keyed`.
+mod Keys

@@ -1,0 +1,82 @@
+// Keyed search (document 01, store.rs): the keys of the live slots that score highest under a query, each once, with the score of its first hit.
+ghost use mathlib.Core.Path.{_≡_};
+ghost use Prim.Native.Nat.{min};
+ghost use lib.ListN.{length};
+ghost use Rattle.index.specs.Arrays.{lent};
+ghost use Rattle.index.specs.Step as Step;
+ghost use Rattle.index.specs.Call.{call};
+ghost use Rattle.index.specs.Answers.{filed, files};
+use index::Found;
+use index::Index;
+
+// Working arrays. Their contents don't matter.
+fn slot_numbers() -> [u32; 65536] {
+    [0; 65536]
+}
+
+fn slot_scores() -> [f32; 65536] {
+    [0.0; 65536]
+}
+
+// Writes the keys and scores to the first places of `names` and `scores`, and answers how many they are: fewer than k where hits have no key or a key twice.
+// Refused by 13, 1, 2, 3, 10 and 12 in this order: the result needs as many places as in a search, and a slot without a key counts for 12.
+pub fn search_keyed(
+    index: Index,
+    codes: &[u8],
+    scales: &[u32],
+    keys: &[u64],
+    keyed: &[bool],
+    held: &[u32],
+    alive: &[u8],
+    codes2: &[u8],
+    scales2: &[u32],
+    query: &[f32],
+    k: usize,
+    names: &mut [u64],
+    scores: &mut [f32],
+) -> Found
+    ensures { λ r. ⌜
+        filed index (lent (codes .entry) (scales .entry) (keys .entry) (keyed .entry) (held .entry) (alive .entry) (codes2 .entry) (scales2 .entry))
+        r (now (names .exit)) (now (scores .exit))
+        ≡ files (call index (lent (codes .entry) (scales .entry) (keys .entry) (keyed .entry) (held .entry) (alive .entry) (codes2 .entry) (scales2 .entry))
+        (Step.searchKeyed (now (query .entry)) k (min (length (now (names .entry))) (length (now (scores .entry))))))
+        (now (names .entry)) (now (scores .entry)) ⌝ }
+{
+    let fault = asking::search_fault(
+        index,
+        codes,
+        scales,
+        keys,
+        keyed,
+        held,
+        alive,
+        codes2,
+        scales2,
+        query,
+        k,
+        names.len(),
+        scores.len(),
+    );
+    if fault != 0 {
+        return Found::Refused(fault);
+    }
+    let mut slots = slot_numbers();
+    let mut found = slot_scores();
+    let listed = hits::list(
+        index,
+        codes,
+        scales,
+        codes2,
+        scales2,
+        alive,
+        query,
+        k,
+        &mut slots,
+        &mut found,
+    );
+    let Found::Hits(m) = listed else {
+        return listed;
+    };
+    let n = distinct::list_keys(keys, keyed, &slots[0..m], &found[0..m], names, scores);
+    Found::Hits(n)
+}
