@@ -22,14 +22,14 @@ joined-append (b ∷ bs) cs = rw (joined-append bs cs) (sym (append-assoc b (joi
 module _ (w : ℕ) where
   -- ---- the blocks that an array has
 
-  block-there : (i : ℕ) (xs : List ℕ) → i * w + w ≤ length xs → blockAt w i xs ≡ take w (drop (i * w) xs)
+  pub block-there : (i : ℕ) (xs : List ℕ) → i * w + w ≤ length xs → blockAt w i xs ≡ take w (drop (i * w) xs)
   unfolding blockAt
   block-there i xs h = rw (le-leb _ _ h)
 
   pub length-block : (i : ℕ) (xs : List ℕ) → i * w + w ≤ length xs → length (blockAt w i xs) ≡ w
   length-block i xs h = rw (block-there i xs h) (length-take-le w (drop (i * w) xs) (rw (length-drop (i * w) xs) (omega arith)))
 
-  joined-blocks : (n : ℕ) (xs : List ℕ) → n * w ≤ length xs → joined (tab (λ i. blockAt w i xs) n) ≡ take (n * w) xs
+  pub joined-blocks : (n : ℕ) (xs : List ℕ) → n * w ≤ length xs → joined (tab (λ i. blockAt w i xs) n) ≡ take (n * w) xs
   unfolding joined
   joined-blocks zero xs h = rw (zero-mul w)
   joined-blocks (suc n) xs h =

@@ -31,12 +31,12 @@ use Rattle.index.proofs.Marks.{and-left, and-right, rowOf, once-positio
 -- ---- the tests one by one
 
 module _ {A : Type 0} (p : A → Bool) where
-  all-each : (xs : List A) → all p xs ≡ true → Each (λ x. p x ≡ true) xs
+  pub all-each : (xs : List A) → all p xs ≡ true → Each (λ x. p x ≡ true) xs
   unfolding all
   all-each [] e = tt
   all-each (x ∷ xs) e = (and-left (p x) (all p xs) e, all-each xs (and-right (p x) (all p xs) e))
 
-  each-all : (xs : List A) → Each (λ x. p x ≡ true) xs → all p xs ≡ true
+  pub each-all : (xs : List A) → Each (λ x. p x ≡ true) xs → all p xs ≡ true
   unfolding all
   each-all [] h = refl
   each-all (x ∷ xs) h = rw (h .0, each-all xs (h .1))

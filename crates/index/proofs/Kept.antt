@@ -30,12 +30,12 @@ use Rattle.index.proofs.Changes.{once-unkeyed, once-keyed, once-removed
 
 -- ---- what an accepted call has passed
 
-first-none : (n : ℕ) (ns : List ℕ) → firstOf (n ∷ ns) ≡ 0 → (n ≡ 0) × (firstOf ns ≡ 0)
+pub first-none : (n : ℕ) (ns : List ℕ) → firstOf (n ∷ ns) ≡ 0 → (n ≡ 0) × (firstOf ns ≡ 0)
 unfolding firstOf
 first-none zero ns e = (refl, e)
 first-none (suc n) ns e = absurd (omega arith)
 
-when-none : (b : Bool) (n : ℕ) → when b (suc n) ≡ 0 → b ≡ false
+pub when-none : (b : Bool) (n : ℕ) → when b (suc n) ≡ 0 → b ≡ false
 when-none true n e = absurd (omega arith)
 when-none false n e = refl
 
@@ -92,12 +92,12 @@ module _ (seen : ℕ → ℕ) (s : Slot) (ss : List Slot) where
       go (unkeyed u) = (seen, unkeyed u, refl)
       go (keyed k p) = (oneMore k seen, keyed k (seen k), refl)
 
-rising-length : (seen : ℕ → ℕ) (ss : List Slot) → length (rising seen ss) ≡ length ss
+pub rising-length : (seen : ℕ → ℕ) (ss : List Slot) → length (rising seen ss) ≡ length ss
 unfolding rising
 rising-length seen [] = refl
 rising-length seen (s ∷ ss) = let r = rising-first seen s ss in rw (r .2) (ap suc (rising-length (r .0) ss))
 
-rising-shaped : (h : Header) (seen : ℕ → ℕ) (ss : List Slot) → AllShaped h ss → AllShaped h (rising seen ss)
+pub rising-shaped : (h : Header) (seen : ℕ → ℕ) (ss : List Slot) → AllShaped h ss → AllShaped h (rising seen ss)
 unfolding rising
 rising-shaped h seen [] c = tt
 rising-shaped h seen (s ∷ ss) c = let r = rising-first seen s ss in rw (r .2) (c .0, rising-shaped h (r .0) ss (c .1))

@@ -9,3 +9,4 @@ pub mod Changes
 pub mod Kept
 pub mod Calls
 pub mod Places
+pub mod Read

@@ -46,9 +46,14 @@ unfoldable pub keyEntries : ℕ → List Entry → List (List ℕ)
 keyEntries i [] = []
 keyEntries i (e ∷ es) = elim (e .key) [ none ↦ keyEntries (suc i) es | some k ↦ (le 4 i ++ le 8 k) ∷ keyEntries (suc i) es ]
 
+-- the first 24 bytes, for n live slots
+abbrev pub headBytes : Header → (n : ℕ) → List ℕ
+headBytes h n =
+    magic ++ le 2 (versionOf h) ++ le 2 (cond (eqb (h .working) (h .dim)) 0 (h .working)) ++ le 4 (h .dim) ++ le 8 (h .seed) ++ le 4 n
+
+-- The blocks in their order. Where each begins is said in the crate `layout`.
 unfoldable pub fileOf : Header → List Entry → List ℕ
 fileOf h es =
-    magic ++ le 2 (versionOf h) ++ le 2 (cond (eqb (h .working) (h .dim)) 0 (h .working)) ++ le 4 (h .dim) ++ le 8 (h .seed) ++ le 4 (length es)
-    ++ widthByte h
+    headBytes h (length es) ++ widthByte h
     ++ stageBytes (map (λ e. e .code .first) es) ++ stageBytes (secondStages es)
     ++ le 4 (length (keyEntries 0 es)) ++ joined (keyEntries 0 es)

@@ -10,3 +10,4 @@ pub mod Make
 pub mod Answers
 pub mod History
 pub mod Sound
+pub mod Read

@@ -1,0 +1,145 @@
+-- Questions of the live slots look at a slot's number only to answer it: renumbered slots give the answer renumbered.
+use mathlib.Core.Path.{_≡_, refl, ap, sym, _∙_}
+use mathlib.Core.Bool.{Bool, true, false, cond, _||_}
+use mathlib.Core.List.{List, [], _∷_, map, map-map}
+use mathlib.Core.Option.{Option, none, some}
+use Prim.Native.Nat.{ℕ}
+use lib.ListN.{length, length-map}
+use lib.Dec.{ltb, eqb}
+use lib.Ieee.{Float, isNan}
+use Rattle.lists.specs.Keep.{Each}
+use Rattle.lists.proofs.Keep.{count-map}
+use Rattle.lists.proofs.Front.{each-map}
+use Rattle.choose.specs.Choose.{choose}
+use Rattle.choose.proofs.Choice.{choose-map, choose-each}
+use Rattle.encode.specs.declared.Header.{Header}
+use Rattle.index.specs.State.{Mark}
+use Rattle.index.specs.File.{fileOf}
+use Rattle.index.specs.Step.{Query, Answer, flag, maybeSlot, hits, keyHits, size, bytes, firstOf, when, unless, any, Cell, holdsAt, cellHolds, heldBy, isHeld, numberWhere, slotHolding, Hit, rank, queryRefusal, shortResult, bySlot, byKey, hitsOf, hitOf, searched, entryOf, fileBytes}
+use Rattle.histories.specs.Histories.{also}
+use Rattle.histories.proofs.Cells.{rename}
+use Rattle.histories.proofs.Reading.{back, Slots, back-unless, slots-unless}
+
+-- a question that knows the numbers of the live slots as names only
+pub record Blind (ask : List Cell → Answer) : Type 1 where
+  pub renamed : (f : ℕ → ℕ) (cs : List Cell) → back f (ask cs) ≡ ask (map (rename f) cs)
+  pub slots : (P : ℕ → Type 0) (cs : List Cell) → Each (λ c. P (c .number)) cs → Slots P (ask cs)
+
+-- ---- look-ups
+
+pub held-renamed : (j : ℕ) (f : ℕ → ℕ) (cs : List Cell) → heldBy j (map (rename f) cs) ≡ heldBy j cs
+held-renamed j f cs = count-map (rename f) (cellHolds j) cs
+
+module _ (q : Mark → Bool) where
+  abbrev byMark : Cell → Bool
+  byMark c = q (c .slot .mark)
+
+  pub where-renamed : (f : ℕ → ℕ) (cs : List Cell) → also f (numberWhere byMark cs) ≡ numberWhere byMark (map (rename f) cs)
+  unfolding numberWhere
+  where-renamed f [] = refl
+  where-renamed f (c ∷ cs) = go (byMark c) (where-renamed f cs)
+    where
+      go : (b : Bool) → also f (numberWhere byMark cs) ≡ numberWhere byMark (map (rename f) cs) →
+          also f (cond b (some (c .number)) (numberWhere byMark cs)) ≡ cond b (some (f (c .number))) (numberWhere byMark (map (rename f) cs))
+      go true ih = refl
+      go false ih = ih
+
+  where-slots : (P : ℕ → Type 0) (cs : List Cell) → Each (λ c. P (c .number)) cs → Slots P (maybeSlot (numberWhere byMark cs))
+  unfolding numberWhere
+  where-slots P [] h = tt
+  where-slots P (c ∷ cs) h = go (byMark c) (where-slots P cs (h .1))
+    where
+      go : (b : Bool) → Slots P (maybeSlot (numberWhere byMark cs)) → Slots P (maybeSlot (cond b (some (c .number)) (numberWhere byMark cs)))
+      go true ih = h .0
+      go false ih = ih
+
+  pub where-blind : Blind (λ cs. maybeSlot (numberWhere byMark cs))
+  where-blind = record { renamed = λ f cs. ap maybeSlot (where-renamed f cs); slots = where-slots }
+
+-- ---- searches
+
+abbrev renamedHit : (ℕ → ℕ) → Hit → Hit
+renamedHit f x = record { number = f (x .number); key = x .key; score = x .score }
+
+any-map : {X Y : Type 0} (p : Y → Bool) (f : X → Y) (xs : List X) → any p (map f xs) ≡ any (λ x. p (f x)) xs
+unfolding any
+any-map p f [] = refl
+any-map p f (x ∷ xs) = ap (λ (b : Bool). p (f x) || b) (any-map p f xs)
+
+module _ (h : Header) (q : Query) where
+  hits-renamed : (f : ℕ → ℕ) (cs : List Cell) → hitsOf h q (map (rename f) cs) ≡ map (renamedHit f) (hitsOf h q cs)
+  hits-renamed f cs = map-map (hitOf h q) (rename f) cs ∙ sym (map-map (renamedHit f) (hitOf h q) cs)
+
+  refusal-renamed : (f : ℕ → ℕ) (xs : List Hit) → queryRefusal h q (map (renamedHit f) xs) ≡ queryRefusal h q xs
+  unfolding queryRefusal
+  refusal-renamed f xs = rw (length-map xs (renamedHit f), any-map (λ (x : Hit). isNan (x .score)) (renamedHit f) xs)
+
+  -- by what is shown of the hits
+  pub searched-blind : (k places : ℕ) (shown : List Hit → Answer) → ((f : ℕ → ℕ) (xs : List Hit) → back f (shown xs) ≡ shown (map (renamedHit f) xs)) →
+      ((P : ℕ → Type 0) (xs : List Hit) → Each (λ x. P (x .number)) xs → Slots P (shown xs)) → Blind (λ cs. searched h cs q k places shown)
+  unfolding searched
+  searched-blind k places shown e s =
+      record {
+        renamed = λ f cs.
+            rw (
+              hits-renamed f cs,
+              refusal-renamed f (hitsOf h q cs),
+              choose-map rank (renamedHit f) k (hitsOf h q cs),
+              length-map cs (rename f),
+              ← e f
+                  (choose rank k (hitsOf h q cs)),
+            )
+            (back-unless f (firstOf (shortResult k (length cs) places ∷ queryRefusal h q (hitsOf h q cs) ∷ [])) (shown (choose rank k (hitsOf h q cs))));
+        slots = λ P cs p.
+            slots-unless P (firstOf (shortResult k (length cs) places ∷ queryRefusal h q (hitsOf h q cs) ∷ [])) (shown (choose rank k (hitsOf h q cs)))
+            (s P (choose rank k (hitsOf h q cs)) (choose-each rank k (hitsOf h q cs) (λ x. P (x .number)) (each-map (λ x. P (x .number)) (hitOf h q) cs p)));
+      }
+
+  pub search-blind : (k places : ℕ) → Blind (λ cs. searched h cs q k places (λ xs. hits (map bySlot xs)))
+  search-blind k places =
+      searched-blind k places (λ xs. hits (map bySlot xs))
+      (λ f xs. ap hits (map-map (λ (x : ℕ × Float). (f (x .0), x .1)) bySlot xs ∙ sym (map-map bySlot (renamedHit f) xs)))
+      (λ P xs p. each-map (λ x. P (x .0)) bySlot xs p)
+
+keys-renamed : (f : ℕ → ℕ) (seen : List ℕ) (xs : List Hit) → byKey seen xs ≡ byKey seen (map (renamedHit f) xs)
+unfolding byKey
+keys-renamed f seen [] = refl
+keys-renamed f seen (x ∷ xs) = go (x .key) (keys-renamed f seen xs) (λ k. keys-renamed f (k ∷ seen) xs)
+  where
+    go : (o : Option ℕ) → byKey seen xs ≡ byKey seen (map (renamedHit f) xs) → ((k : ℕ) → byKey (k ∷ seen) xs ≡ byKey (k ∷ seen) (map (renamedHit f) xs)) →
+        _≡_ {A = List (ℕ × Float)}
+        (elim o [ none ↦ byKey seen xs | some k ↦ cond (any (eqb k) seen) (byKey seen xs) ((k, x .score) ∷ byKey (k ∷ seen) xs) ])
+        (elim o [
+          | none ↦ byKey seen (map (renamedHit f) xs)
+          | some k ↦ cond (any (eqb k) seen) (byKey seen (map (renamedHit f) xs))
+              ((k, x .score) ∷ byKey (k ∷ seen) (map (renamedHit f) xs))
+        ])
+    go none a b = a
+    go (some k) a b = rw (a, b k)
+
+pub searchKeyed-blind : (h : Header) (q : Query) (k places : ℕ) → Blind (λ cs. searched h cs q k places (λ xs. keyHits (byKey [] xs)))
+searchKeyed-blind h q k places = searched-blind h q k places (λ xs. keyHits (byKey [] xs)) (λ f xs. ap keyHits (keys-renamed f [] xs)) (λ P xs p. tt)
+
+-- ---- key questions, writing
+
+pub contains-blind : (j : ℕ) → Blind (λ cs. flag (isHeld j cs))
+contains-blind j = record { renamed = λ f cs. ap (λ (n : ℕ). flag (ltb 0 n)) (sym (held-renamed j f cs)); slots = λ P cs p. tt }
+
+pub slotOf-blind : (j i : ℕ) → Blind (λ cs. maybeSlot (slotHolding j i cs))
+slotOf-blind j i = where-blind (holdsAt j i)
+
+module _ (h : Header) where
+  bytes-renamed : (f : ℕ → ℕ) (cs : List Cell) → fileBytes h cs ≡ fileBytes h (map (rename f) cs)
+  bytes-renamed f cs = ap (λ es. fileOf h es) (sym (map-map entryOf (rename f) cs))
+
+  pub length-blind : Blind (λ cs. size (length (fileBytes h cs)))
+  length-blind = record { renamed = λ f cs. ap (λ (bs : List ℕ). size (length bs)) (bytes-renamed f cs); slots = λ P cs p. tt }
+
+  pub write-blind : (places : ℕ) → Blind (λ cs. unless (when (ltb places (length (fileBytes h cs))) 13) (bytes (fileBytes h cs)))
+  write-blind places =
+      record {
+        renamed = λ f cs.
+            back-unless f (when (ltb places (length (fileBytes h cs))) 13) (bytes (fileBytes h cs)) ∙
+            ap (λ (bs : List ℕ). unless (when (ltb places (length bs)) 13) (bytes bs)) (bytes-renamed f cs);
+        slots = λ P cs p. slots-unless P (when (ltb places (length (fileBytes h cs))) 13) (bytes (fileBytes h cs)) tt;
+      }

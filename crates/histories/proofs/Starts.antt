@@ -1,0 +1,145 @@
+-- A start is a good run: the record and the arrays fit, and no slot is in use.
+use mathlib.Core.Path.{_≡_, refl, sym, ap, ap₂, _∙_}
+use mathlib.Core.Bool.{true, not, _&&_, _||_}
+use mathlib.Core.List.{[], _∷_, map}
+use Prim.Native.Nat.{ℕ, zero, suc, _<_}
+use native.Mathlib.Omega.{arith}
+use lib.ListN.{length}
+use lib.Dec.{eqb}
+use borrow.Author.Tests.{le-ltb, not-false}
+use Rattle.lists.specs.Lists.{tab, over}
+use Rattle.lists.specs.Keep.{bit}
+use Rattle.lists.proofs.Laws.{length-tab}
+use Rattle.lists.proofs.Front.{each-tab}
+use Rattle.encode.specs.declared.Header.{Header}
+use Rattle.index.specs.declared.Index.{Index}
+use Rattle.index.specs.declared.Made.{Made}
+use Rattle.index.specs.declared.Made.the-variants as Made
+use Rattle.index.specs.Arrays.{Arrays}
+use Rattle.index.specs.State.{State, headerOf, capacity, slotAt, stateOf, recordOf, overlay, joined, seconds}
+use Rattle.index.specs.Fit.{between, fit}
+use Rattle.index.specs.Step.{setBits, liveFrom, when, widthSet, guarded, Outcome, step}
+use Rattle.index.specs.Call.{Result, call}
+use Rattle.index.specs.Make.{empty, makeRefusal, make}
+use Rattle.index.specs.Sound.{Ranged, Sound}
+use Rattle.index.proofs.Fits.{sound-fit}
+use Rattle.index.proofs.Marks.{and-left, and-right}
+use Rattle.index.proofs.Kept.{fit-kept, call-state}
+use Rattle.histories.specs.Histories.{Making, new, withResidual, withWorkingDim, madeHeader, Start, asMade, withWidth, liveArrival, liveBy, begin}
+use Rattle.histories.proofs.Reading.{first-none, when-none}
+use Rattle.histories.proofs.Arrivals.{Sorted, sorted-more}
+use Rattle.histories.proofs.Held.{cellsOf}
+use Rattle.histories.proofs.Tracks.{none-seen}
+use Rattle.histories.proofs.Runs.{Good}
+
+-- ---- an accepted making
+
+abbrev recordIn : Index → Made → Index
+recordIn d (Made.Index y) = y
+recordIn d (Made.Refused n) = d
+
+abbrev isMade : Made → ℕ
+isMade (Made.Index y) = 1
+isMade (Made.Refused n) = 0
+
+make-accepted : (h : Header) (a : Arrays) (x : Index) → make h a ≡ Made.Index x → (makeRefusal h a ≡ 0) × (recordOf (empty h) ≡ x)
+unfolding make
+make-accepted h a x e = go (makeRefusal h a) e
+  where
+    go : (n : ℕ) → elim n [ zero ↦ Made.Index (recordOf (empty h)) | suc m ↦ Made.Refused (suc m) ] ≡ Made.Index x → (n ≡ 0) × (recordOf (empty h) ≡ x)
+    go zero f = (refl, ap (recordIn x) f)
+    go (suc n) f = absurd (omega (arith, ap isMade f))
+
+ranged-of : (h : Header) (a : Arrays) → makeRefusal h a ≡ 0 → between 4 6 (h .width) ≡ true → (not (h .residual) || eqb (h .width) 4) ≡ true → Ranged h
+unfolding makeRefusal
+ranged-of h a e w r =
+    let dims : (between 1 4096 (h .dim) && between 1 (h .dim) (h .working)) ≡ true =
+    not-false _ (when-none _ 3 (first-none _ (when (eqb (capacity h a) 0) 13 ∷ []) e .0)) in
+    record {
+      dim = and-left (between 1 4096 (h .dim)) (between 1 (h .dim) (h .working)) dims;
+      working = and-right (between 1 4096 (h .dim)) (between 1 (h .dim) (h .working)) dims;
+      width = w;
+      residual = r;
+    }
+
+made-ranged : (m : Making) (a : Arrays) → makeRefusal (madeHeader m) a ≡ 0 → Ranged (madeHeader m)
+made-ranged (new dim seed) a e = ranged-of (madeHeader (new dim seed)) a e refl refl
+made-ranged (withResidual dim seed) a e = ranged-of (madeHeader (withResidual dim seed)) a e refl refl
+made-ranged (withWorkingDim dim working seed) a e = ranged-of (madeHeader (withWorkingDim dim working seed)) a e refl refl
+
+no-overlay : (a : Arrays) → overlay a [] ≡ a
+unfolding overlay over joined seconds
+no-overlay a = refl
+
+empty-sound : (h : Header) (a : Arrays) → Ranged h → Sound (capacity h a) (empty h)
+empty-sound h a r = record { header = r; space = omega arith; shape = tt; positions = λ k p. sym (ap bit (le-ltb p 0 (omega arith))) }
+
+made-fit : (m : Making) (a : Arrays) (x : Index) → make (madeHeader m) a ≡ Made.Index x → (fit x a ≡ true) × (x .n ≡ 0)
+unfolding recordOf
+made-fit m a x e =
+    let p = make-accepted (madeHeader m) a x e in (
+      ap₂ fit (sym (p .1)) (sym (no-overlay a)) ∙ sound-fit (empty (madeHeader m)) a (empty-sound (madeHeader m) a (made-ranged m a (p .0))),
+      ap (λ (y : Index). y .n) (sym (p .1)),
+    )
+
+-- ---- no slot in use
+
+none-slots : (x : Index) (a : Arrays) → x .n ≡ 0 → stateOf x a .slots ≡ []
+unfolding stateOf
+none-slots x a e = ap (tab (slotAt (headerOf x) a)) e
+
+pub slots-in-use : (x : Index) (a : Arrays) → length (stateOf x a .slots) ≡ x .n
+unfolding stateOf
+slots-in-use x a = length-tab (slotAt (headerOf x) a) (x .n)
+
+slots-none : (x : Index) (a : Arrays) → stateOf x a .slots ≡ [] → x .n ≡ 0
+slots-none x a e = sym (slots-in-use x a) ∙ ap length e
+
+guarded-slots : (s : State) (n : ℕ) (o : Outcome) → s .slots ≡ [] → o .state .slots ≡ [] → guarded s n o .state .slots ≡ []
+unfolding guarded
+guarded-slots s zero o e f = f
+guarded-slots s (suc n) o e f = e
+
+width-slots : (s : State) (w : ℕ) → s .slots ≡ [] → widthSet s w .state .slots ≡ []
+unfolding widthSet
+width-slots s w e = guarded-slots s _ _ e refl
+
+-- ---- a start as a run
+
+arrivals-sorted : (n : ℕ) → Sorted (tab (λ i. i) n)
+arrivals-sorted zero = tt
+arrivals-sorted (suc n) = sorted-more n (tab (λ i. i) n) (arrivals-sorted n) (each-tab (λ a. a < n) (λ i. i) n (λ i l. l))
+
+-- a record and arrays that fit, whose live slots hold rising positions
+pub begin-good : (x : Index) (a : Arrays) → fit x a ≡ true → liveBy (tab (λ i. i) (x .n)) (stateOf x a .slots) ≡
+    cellsOf none-seen (map liveArrival (liveFrom 0 (stateOf x a .slots))) →
+    Good (begin x a)
+unfolding begin
+begin-good x a f c =
+    record {
+      fits = f;
+      header = refl;
+      tracks =
+          record {
+            places = length-tab (λ i. i) (x .n) ∙ sym (slots-in-use x a);
+            sorted = arrivals-sorted (x .n);
+            below = each-tab (λ b. b < x .n) (λ i. i) (x .n) (λ i l. l);
+            cells = c;
+          };
+    }
+
+empty-good : (x : Index) (a : Arrays) → fit x a ≡ true → x .n ≡ 0 → Good (begin x a)
+unfolding liveFrom
+empty-good x a f z = begin-good x a f (rw (none-slots x a z, z))
+
+pub start-good : (x : Index) (a : Arrays) → Start x a → Good (begin x a)
+unfolding step
+start-good x a (asMade m e) = let p = made-fit m a x e in empty-good x a (p .0) (p .1)
+start-good x a (withWidth m y b w e f) =
+    let p = made-fit m b y e in
+    let i : call y b (setBits w) .index ≡ x = ap (λ (r : Result). r .index) f in
+    let k : call y b (setBits w) .arrays ≡ a = ap (λ (r : Result). r .arrays) f in
+    empty-good x a (ap₂ fit (sym i) (sym k) ∙ fit-kept y b (setBits w) (p .0))
+    (slots-none x a
+    (ap₂ (λ (z : Index) (c : Arrays). stateOf z c .slots) (sym i) (sym k) ∙ ap (λ (s : State). s .slots) (call-state y b (setBits w) (p .0)) ∙
+    width-slots (stateOf y b) w (none-slots y b (p .1))))

@@ -1,0 +1,415 @@
+-- Demand 3 of the mission, over the record and the lent arrays, by the very `call` that the contracts cite.
+--
+-- In the words of document 01, "Histories":
+--   history       a list, of any length, of calls (`HistoryOp` of the index), refused ones included. "Each call gets the record and the index's arrays
+--                 as the one before left them"; "Each call brings all else that it takes".
+--   arrival       "a read index's slots arrive as 0, 1, 2 in slot order; a new index has none; each accepted append is the next, an overwrite none".
+--   live arrival  "live from its arrival until a whole-key removal takes it". Which these are, with key and code, is said by the calls alone: `Told` and
+--                 `says` below look at no array. That the arrays agree is law `Faithful`.
+--   number        "how many lower arrivals were not already dead at the last compaction, all of them if there was none": `number`.
+--   legal call    it "names live slots only, each by arrival": `namesLive`. No relabelling is ruled out: the mission's proviso always holds (`Faithful`,
+--                 field `held`).
+-- The claims are `SameAnswers` and `SearchesSound`; laws beside them stand at the end. docs/HISTORIES.md leads through this file.
+use mathlib.Core.Path.{_≡_}
+use mathlib.Core.Bool.{Bool, true, false, not, cond, _&&_, _||_}
+use mathlib.Core.List.{List, [], _∷_, _++_, map, List·Memᴰ}
+use mathlib.Core.Option.{Option, none, some}
+use Prim.Native.Nat.{ℕ, suc, min, max, _≤_}
+use lib.ListN.{length, getElem?}
+use lib.Dec.{ltb, eqb}
+use lib.Ieee.{Float}
+use Rattle.lists.specs.Lists.{tab}
+use Rattle.lists.specs.Keep.{keep, count, Each}
+use Rattle.choose.specs.Falling.{Falls}
+use Rattle.score.specs.Order.{orderNumber}
+use Rattle.encode.specs.declared.Header.{Header}
+use Rattle.encode.specs.Coded.{Code, noSpare, spareOf}
+use Rattle.index.specs.declared.Index.{Index}
+use Rattle.index.specs.declared.Made.the-variants as Made
+use Rattle.index.specs.Arrays.{Arrays}
+use Rattle.index.specs.State.{Slot, live, headerOf, stateOf}
+use Rattle.index.specs.Codec.{encoded, scoreOf}
+use Rattle.index.specs.Fit.{fit}
+use Rattle.index.specs.File.{fileOf}
+use Rattle.index.specs.Step.{Item, Query, Answer, refused, done, flag, slot, maybeSlot, maybeKey, scoreIs, hits, keyHits, size, bytes, any, Cell, liveFrom, keyOfMark, rising, setBits}
+use Rattle.index.specs.Call.{Result, call}
+use Rattle.index.specs.Answers.{result}
+use Rattle.index.specs.Make.{newHeader, make}
+use Rattle.index.specs.History.{HistoryOp, add, addKeyed, addMulti, relabel, remove, compact, score, search, searchKeyed, keyOf, contains, slotOf, fileLength, write, opAt}
+
+abbrev pub History : Type 0
+History = List HistoryOp
+
+-- ---- what the calls alone say
+
+-- a live arrival, with the key and the code that the calls gave it
+pub record LiveArrival : Type 0 where
+  pub arrival : ℕ
+  pub key : Option ℕ
+  pub code : Code
+
+-- the header of the start, the next arrival, and the live arrivals in order of arrival
+pub record Told : Type 0 where
+  pub header : Header
+  pub next : ℕ
+  pub living : List LiveArrival
+
+abbrev pub withLiving : Told → List LiveArrival → Told
+withLiving t ls = record { header = t .header; next = t .next; living = ls }
+
+abbrev pub isKey : (key : ℕ) → Option ℕ → Bool
+isKey j none = false
+isKey j (some k) = eqb k j
+
+abbrev pub carries : (key : ℕ) → LiveArrival → Bool
+carries j l = isKey j (l .key)
+
+-- whether a live arrival has the key
+abbrev pub taken : (key : ℕ) → List LiveArrival → Bool
+taken j ls = any (carries j) ls
+
+-- an accepted append: "each accepted append is the next"; "Spare bits are 0 after an append"
+abbrev pub joined : Told → (key : Option ℕ) → Item → Told
+joined t key v =
+    record { header = t .header; next = suc (t .next); living = t .living ++ (record { arrival = t .next; key = key; code = encoded (t .header) noSpare v } ∷ []) }
+
+-- an overwrite goes to the lowest live arrival of the key and "keeps" its spare bits
+abbrev pub recoded : Header → Item → LiveArrival → LiveArrival
+recoded h v l = record { arrival = l .arrival; key = l .key; code = encoded h (spareOf h (l .code)) v }
+
+abbrev pub overwritten : Header → (key : ℕ) → Item → List LiveArrival → List LiveArrival
+overwritten h j v [] = []
+overwritten h j v (l ∷ ls) = cond (carries j l) (recoded h v l ∷ ls) (l ∷ overwritten h j v ls)
+
+-- relabelling an old key that is held, to itself or to a key that is not held
+abbrev pub mayRelabel : (old new : ℕ) → List LiveArrival → Bool
+mayRelabel j k ls = taken j ls && (eqb j k || not (taken k ls))
+
+abbrev pub relabelled : (old new : ℕ) → LiveArrival → LiveArrival
+relabelled j k l = record { arrival = l .arrival; key = cond (carries j l) (some k) (l .key); code = l .code }
+
+-- what an accepted call adds to what is told
+unfoldable pub says : HistoryOp → Told → Told
+says (add v) t = joined t none v
+says (addKeyed j v) t = cond (taken j (t .living)) (withLiving t (overwritten (t .header) j v (t .living))) (joined t (some j) v)
+says (addMulti j v) t = joined t (some j) v
+says (relabel j k) t = withLiving t (cond (mayRelabel j k (t .living)) (map (relabelled j k) (t .living)) (t .living))
+says (remove j) t = withLiving t (keep (λ l. not (carries j l)) (t .living))
+says compact t = t
+says (score a q) t = t
+says (search q k places) t = t
+says (searchKeyed q k places) t = t
+says (keyOf a) t = t
+says (contains j) t = t
+says (slotOf j i) t = t
+says fileLength t = t
+says (write places) t = t
+
+abbrev pub isAppend : HistoryOp → List LiveArrival → Bool
+isAppend (add v) ls = true
+isAppend (addKeyed j v) ls = not (taken j ls)
+isAppend (addMulti j v) ls = true
+isAppend (relabel j k) ls = false
+isAppend (remove j) ls = false
+isAppend compact ls = false
+isAppend (score a q) ls = false
+isAppend (search q k places) ls = false
+isAppend (searchKeyed q k places) ls = false
+isAppend (keyOf a) ls = false
+isAppend (contains j) ls = false
+isAppend (slotOf j i) ls = false
+isAppend fileLength ls = false
+isAppend (write places) ls = false
+
+abbrev pub isCompact : HistoryOp → Bool
+isCompact (add v) = false
+isCompact (addKeyed j v) = false
+isCompact (addMulti j v) = false
+isCompact (relabel j k) = false
+isCompact (remove j) = false
+isCompact compact = true
+isCompact (score a q) = false
+isCompact (search q k places) = false
+isCompact (searchKeyed q k places) = false
+isCompact (keyOf a) = false
+isCompact (contains j) = false
+isCompact (slotOf j i) = false
+isCompact fileLength = false
+isCompact (write places) = false
+
+abbrev pub ids : List LiveArrival → List ℕ
+ids ls = map (λ l. l .arrival) ls
+
+-- The arrivals that were "not already dead at the last compaction", in order of arrival, after an accepted call: a compaction leaves the live ones, an
+-- append is one more.
+unfoldable pub numbered : HistoryOp → Told → List ℕ → List ℕ
+numbered op t ws = cond (isCompact op) (ids (t .living)) (cond (isAppend op (t .living)) (ws ++ (t .next ∷ [])) ws)
+
+-- "how many lower arrivals were not already dead at the last compaction"
+abbrev pub number : (arrivals : List ℕ) → (arrival : ℕ) → ℕ
+number ws a = count (λ b. ltb b a) ws
+
+-- "the live arrival that then has this number", of these live ones
+abbrev pub arrivalAt : (arrivals live : List ℕ) → (number : ℕ) → Option ℕ
+arrivalAt ws [] i = none
+arrivalAt ws (a ∷ more) i = cond (eqb (number ws a) i) (some a) (arrivalAt ws more i)
+
+-- ---- answers, "slots read by arrival"
+
+abbrev pub also : {A B : Type 0} → (A → B) → Option A → Option B
+also f none = none
+also f (some x) = some (f x)
+
+abbrev pub both : Option (ℕ × Float) → Option (List (ℕ × Float)) → Option (List (ℕ × Float))
+both none o = none
+both (some x) o = also (λ xs. x ∷ xs) o
+
+abbrev pub hitsRead : (ℕ → Option ℕ) → List (ℕ × Float) → Option (List (ℕ × Float))
+hitsRead f [] = some []
+hitsRead f (x ∷ xs) = both (also (λ a. (a, x .1)) (f (x .0))) (hitsRead f xs)
+
+-- An answer with each slot's number made an arrival by f; none where f has no arrival for a number. A keyed search answers keys, and "slots in a file
+-- stay as written".
+abbrev pub read : (ℕ → Option ℕ) → Answer → Option Answer
+read f (refused n) = some (refused n)
+read f done = some done
+read f (flag b) = some (flag b)
+read f (slot i) = also slot (f i)
+read f (maybeSlot none) = some (maybeSlot none)
+read f (maybeSlot (some i)) = also (λ a. maybeSlot (some a)) (f i)
+read f (maybeKey o) = some (maybeKey o)
+read f (scoreIs x) = some (scoreIs x)
+read f (hits xs) = also hits (hitsRead f xs)
+read f (keyHits xs) = some (keyHits xs)
+read f (size n) = some (size n)
+read f (bytes bs) = some (bytes bs)
+
+abbrev pub accepted : Answer → Bool
+accepted (refused n) = false
+accepted done = true
+accepted (flag b) = true
+accepted (slot i) = true
+accepted (maybeSlot o) = true
+accepted (maybeKey o) = true
+accepted (scoreIs x) = true
+accepted (hits xs) = true
+accepted (keyHits xs) = true
+accepted (size n) = true
+accepted (bytes bs) = true
+
+-- ---- runs
+
+-- a run between two calls: the record, the lent arrays, the arrivals that were not already dead at the last compaction, and what the calls say
+pub record Run : Type 0 where
+  pub index : Index
+  pub arrays : Arrays
+  pub arrivals : List ℕ
+  pub told : Told
+
+-- a call on the run: "handed the slot's number at that moment"
+unfoldable pub called : Run → HistoryOp → Result
+called r op = call (r .index) (r .arrays) (opAt (number (r .arrivals)) op)
+
+-- the run after the call: a refused one tells nothing
+unfoldable pub advance : Run → HistoryOp → Run
+advance r op =
+    let o = called r op in
+    record {
+      index = o .index;
+      arrays = o .arrays;
+      arrivals = cond (accepted (o .answer)) (numbered op (r .told) (r .arrivals)) (r .arrivals);
+      told = cond (accepted (o .answer)) (says op (r .told)) (r .told);
+    }
+
+-- a call of a history, with the run that it comes to
+pub record Moment : Type 0 where
+  pub before : Run
+  pub op : HistoryOp
+
+abbrev pub moments : Run → History → List Moment
+moments r [] = []
+moments r (op ∷ h) = record { before = r; op = op } ∷ moments (advance r op) h
+
+abbrev pub after : Run → History → Run
+after r [] = r
+after r (op ∷ h) = after (advance r op) h
+
+abbrev pub accepts : Moment → Bool
+accepts m = accepted (called (m .before) (m .op) .answer)
+
+-- its answer, a slot in it "read back as the live arrival that then has this number"
+unfoldable pub answer : Moment → Option Answer
+answer m =
+    let r = advance (m .before) (m .op) in
+    read (arrivalAt (r .arrivals) (ids (r .told .living))) (called (m .before) (m .op) .answer)
+
+-- the list "once compactions are struck out", and each other call
+abbrev pub struck : History → History
+struck h = keep (λ op. not (isCompact op)) h
+
+abbrev pub others : Run → History → List Moment
+others r h = keep (λ m. not (isCompact (m .op))) (moments r h)
+
+-- ---- starts
+
+-- the three calls that make an index
+pub data Making : Type 0 where
+  new withResidual : (dim seed : ℕ) → Making
+  withWorkingDim : (dim working seed : ℕ) → Making
+
+abbrev pub madeHeader : Making → Header
+madeHeader (new dim seed) = newHeader dim dim seed false
+madeHeader (withResidual dim seed) = newHeader dim dim seed true
+madeHeader (withWorkingDim dim working seed) = newHeader dim working seed false
+
+-- The record x and the arrays a of a start. "a new index is just made, its width set or left as made", over any arrays: accepted calls.
+pub data Start (x : Index) (a : Arrays) : Type 0 where
+  asMade : (m : Making) → make (madeHeader m) a ≡ Made.Index x → Start x a
+  withWidth : (m : Making) (y : Index) (b : Arrays) (width : ℕ) → make (madeHeader m) b ≡ Made.Index y → call y b (setBits width) ≡ result x a done → Start x a
+
+abbrev pub liveArrival : Cell → LiveArrival
+liveArrival c = record { arrival = c .number; key = keyOfMark (c .slot .mark); code = c .slot .code }
+
+-- the slots in use "arrive as 0, 1, 2 in slot order"; a new index has none
+unfoldable pub begin : Index → Arrays → Run
+begin x a =
+    record {
+      index = x;
+      arrays = a;
+      arrivals = tab (λ i. i) (x .n);
+      told = record { header = headerOf x; next = x .n; living = map liveArrival (liveFrom 0 (stateOf x a .slots)) };
+    }
+
+-- ---- legal histories
+
+abbrev pub isLive : List LiveArrival → (arrival : ℕ) → Bool
+isLive ls a = any (eqb a) (ids ls)
+
+-- "It names live slots only, each by arrival"
+abbrev pub namesLive : List LiveArrival → HistoryOp → Bool
+namesLive ls (add v) = true
+namesLive ls (addKeyed j v) = true
+namesLive ls (addMulti j v) = true
+namesLive ls (relabel j k) = true
+namesLive ls (remove j) = true
+namesLive ls compact = true
+namesLive ls (score a q) = isLive ls a
+namesLive ls (search q k places) = true
+namesLive ls (searchKeyed q k places) = true
+namesLive ls (keyOf a) = isLive ls a
+namesLive ls (contains j) = true
+namesLive ls (slotOf j i) = true
+namesLive ls fileLength = true
+namesLive ls (write places) = true
+
+abbrev pub Legal : Run → History → Type 0
+Legal r h = Each (λ m. namesLive (m .before .told .living) (m .op) ≡ true) (moments r h)
+
+-- ---- claim 1
+
+-- "For every two histories from one new (its width set) or read index that are the same list once compactions are struck out, no other call being
+-- accepted in one and refused in the other: each other call gives the same answer or refusal number in both, alike in score bits, order of lists, key
+-- answers and file bytes, slots read by arrival."
+abbrev pub SameAnswers : Type 0
+SameAnswers =
+    (x : Index) (a : Arrays) → Start x a →  -- from one new index
+    (h₁ h₂ : History) → Legal (begin x a) h₁ → Legal (begin x a) h₂ →
+    struck h₁ ≡ struck h₂ →  -- the same list once compactions are struck out
+    map accepts (others (begin x a) h₁) ≡ map accepts (others (begin x a) h₂) →  -- no other call being accepted in one and refused in the other
+    map answer (others (begin x a) h₁) ≡ map answer (others (begin x a) h₂)  -- each other call gives the same answer or refusal number in both
+
+-- ---- claim 2
+
+-- each live arrival with "the score which scoring as above gives for the query and the slot"
+abbrev pub scores : Run → Query → List (ℕ × Float)
+scores r q = map (λ l. (l .arrival, scoreOf (r .told .header) q (l .code))) (r .told .living)
+
+abbrev pub orderOf : ℕ × Float → ℕ
+orderOf x = orderNumber (x .1)
+
+abbrev pub times : (arrival : ℕ) → List (ℕ × Float) → ℕ
+times a xs = count (λ x. eqb (x .0) a) xs
+
+pub record Lists (m : Moment) (q : Query) (k : ℕ) : Type 0 where
+  pub list : List (ℕ × Float)
+  pub answered : answer m ≡ some (hits list)
+  -- "lists exactly min(max(k,1), live) slots"
+  pub exactly : length list ≡ min (max k 1) (length (m .before .told .living))
+  -- "distinct"
+  pub distinct : (a : ℕ) → times a list ≤ 1
+  -- "and live"; "the list carries these scores"
+  pub areLive : Each (λ x. List·Memᴰ x (scores (m .before) q)) list
+  -- these are the scores that the call `score` gives of these arrivals at that moment
+  pub asScored : Each (λ x. answer (record { before = m .before; op = score (x .0) q }) ≡ some (scoreIs (x .1))) list
+  -- "order numbers never rising"
+  pub falls : Falls orderOf list
+  -- "and every other live slot's order number is at most that of each listed one"
+  pub atMost : (x : ℕ × Float) → List·Memᴰ x (scores (m .before) q) → times (x .0) list ≡ 0 → Each (λ y. orderOf x ≤ orderOf y) list
+
+-- "And in every such history each accepted search lists .."
+abbrev pub SearchesSound : Type 0
+SearchesSound =
+    (x : Index) (a : Arrays) → Start x a → (h : History) → Legal (begin x a) h →
+    Each (λ m. (q : Query) (k places : ℕ) → m .op ≡ search q k places → accepts m ≡ true → Lists m q k) (moments (begin x a) h)
+
+-- ---- laws beside the claims
+
+-- the live slots of the arrays, the first slot being that of the first arrival of the list
+abbrev pub liveBy : (arrivals : List ℕ) → List Slot → List Cell
+liveBy [] ss = []
+liveBy (a ∷ ws) [] = []
+liveBy (a ∷ ws) (s ∷ ss) = cond (live s) (record { number = a; slot = s } ∷ liveBy ws ss) (liveBy ws ss)
+
+abbrev pub slotsOf : Run → List Slot
+slotsOf r = stateOf (r .index) (r .arrays) .slots
+
+pub record Faithful (r : Run) : Type 0 where
+  -- 13 never comes from the index: no call finds a misfit
+  pub fits : fit (r .index) (r .arrays) ≡ true
+  -- no call changes the header
+  pub header : headerOf (r .index) ≡ r .told .header
+  -- the arrivals not already dead at the last compaction are those of the slots in use, and the number that is handed for a live arrival is its place among them
+  pub inUse : length (r .arrivals) ≡ r .index .n
+  pub numbers : Each (λ a. getElem? (r .arrivals) (number (r .arrivals) a) ≡ some a) (ids (r .told .living))
+  -- live marks, keys and codes of the arrays are as the calls say
+  pub marks : map liveArrival (liveBy (r .arrivals) (slotsOf r)) ≡ r .told .living
+  pub live : r .index .live ≡ length (r .told .living)
+  -- each key's held slots are in rising order: the mission's proviso on relabelling always holds
+  pub held : rising (λ k. 0) (slotsOf r) ≡ slotsOf r
+
+abbrev pub AlwaysFaithful : Type 0
+AlwaysFaithful = (x : Index) (a : Arrays) → Start x a → (h : History) → Faithful (after (begin x a) h)
+
+-- each slot in an answer is the number of a live arrival
+abbrev pub AlwaysRead : Type 0
+AlwaysRead =
+    (x : Index) (a : Arrays) → Start x a → (h : History) → Legal (begin x a) h → Each (λ m. (b : Answer) × (answer m ≡ some b)) (moments (begin x a) h)
+
+-- an append that is accepted in one history and refused in the other for want of room: 8
+pub record RefusedFull (m n : Moment) : Type 0 where
+  pub append : isAppend (m .op) (m .before .told .living) ≡ true
+  pub refusal : answer n ≡ some (refused 8)
+
+-- where two lists of calls first part in acceptance
+abbrev pub PartsFull : List Moment → List Moment → Type 0
+PartsFull [] ns = Unit
+PartsFull (m ∷ ms) [] = Unit
+PartsFull (m ∷ ms) (n ∷ ns) =
+    (accepts m ≡ true → accepts n ≡ false → RefusedFull m n) × (accepts m ≡ false → accepts n ≡ true → RefusedFull n m) × (accepts m ≡ accepts n → PartsFull ms ns)
+
+abbrev pub PartAtRoomOnly : Type 0
+PartAtRoomOnly =
+    (x : Index) (a : Arrays) → Start x a → (h₁ h₂ : History) → Legal (begin x a) h₁ → Legal (begin x a) h₂ → struck h₁ ≡ struck h₂ →
+    PartsFull (others (begin x a) h₁) (others (begin x a) h₂)
+
+-- the file of the live arrivals as the calls tell of them: "Only live slots are written, numbered from 0 in slot order, in the key entries too"
+abbrev pub fileOfLiving : Told → List ℕ
+fileOfLiving t = fileOf (t .header) (map (λ l. record { code = l .code; key = l .key }) (t .living))
+
+pub record Files (r : Run) : Type 0 where
+  pub sized : answer (record { before = r; op = fileLength }) ≡ some (size (length (fileOfLiving (r .told))))
+  pub written : (places : ℕ) → accepts (record { before = r; op = write places }) ≡ true → answer (record { before = r; op = write places }) ≡
+      some (bytes (fileOfLiving (r .told)))
+
+abbrev pub AlwaysFiles : Type 0
+AlwaysFiles = (x : Index) (a : Arrays) → Start x a → (h : History) → Files (after (begin x a) h)

@@ -1,0 +1,2 @@
+-- The theorem on histories, as a statement.
+pub mod Histories

@@ -1,0 +1,1 @@
+// The theorem on histories: specs/Histories.antt states it, proofs/ proves it. There is no code.
