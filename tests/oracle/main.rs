@@ -20,7 +20,8 @@ use std::process::ExitCode;
 const USAGE: &str = "usage: oracle leaves-list DIR             writes DIR/stdin and DIR/stdout, the list of the program leaves
        oracle encodings-list DIR [COUNT]  the same of the program encodings: the fixed list, or COUNT random lines
        oracle exercise-list DIR           the same of the program exercise
-       oracle scripts SEED COUNT [--register]  a random script for the program exercise, of about COUNT calls; --register leaves look-up and files out
+       oracle scripts SEED COUNT [--register]  a random script for the program exercise, of about COUNT calls; --register leaves look-up and files out;
+                                          --large: about COUNT searches over indexes of 4,096 slots
        oracle answers                     what the Rust answers to the script on standard input
        oracle compare SCRIPT OURS RUST    compares the answers of the program exercise with those of `oracle answers`";
 
@@ -48,6 +49,7 @@ fn main() -> ExitCode {
         ["exercise-list", dir] => exercise::list().write(Path::new(dir)),
         ["scripts", seed, count] => scripts::write(BufWriter::new(stdout().lock()), number(seed), number(count), false),
         ["scripts", seed, count, "--register"] => scripts::write(BufWriter::new(stdout().lock()), number(seed), number(count), true),
+        ["scripts", seed, count, "--large"] => scripts::write_large(BufWriter::new(stdout().lock()), number(seed), number(count)),
         ["answers"] => answers(),
         ["compare", script, ours, rust] => return if compare::compare(script, ours, rust) { ExitCode::SUCCESS } else { ExitCode::FAILURE },
         _ => {

@@ -42,6 +42,56 @@ pub fn write(out: impl Write, seed: u64, count: usize, register: bool) {
     script.out.flush().expect("the script is written");
 }
 
+/// Indexes of 4,096 slots, of every width and residual, with about COUNT searches in all.
+pub fn write_large(mut out: impl Write, seed: u64, count: usize) {
+    let mut random = Random::new(seed);
+    let mut searches = 0;
+    for number in 0.. {
+        if searches >= count {
+            break;
+        }
+        let (making, width) = [("new", 4), ("new", 5), ("new", 6), ("residual", 4)][number % 4];
+        let dim = [2, 3, 8, 17, 33, 64][random.below(6) as usize];
+        let bytes = 4096 * block_size(dim, 6);
+        let mut line = |line: String| writeln!(out, "{line}").expect("the script is written");
+        line(format!("lend {bytes:x} 1000 1000 1000 1000 1000 {bytes:x} 1000"));
+        line(format!("{making} {dim:x} {:x}", random.word()));
+        line(format!("bits {width:x}"));
+        // Few different entries, so that scores are often equal; or many.
+        let span = [2, 5, 19, 1 << 20][random.below(4) as usize];
+        let entries = |random: &mut Random| {
+            let v: Vec<f32> = (0..dim).map(|_| random.below(span) as f32 - (span / 2) as f32).collect();
+            if v.iter().all(|&x| x == 0.0) { vector(&vec![1.0; dim]) } else { vector(&v) }
+        };
+        let keys = [1, 50, 3000, u64::MAX][random.below(4) as usize];
+        for _ in 0..4096 {
+            let v = entries(&mut random);
+            line(if random.below(5) == 0 { format!("add {v}") } else { format!("add_multi {:x} {v}", random.below(keys)) });
+        }
+        if keys > 1 {
+            (0..20).for_each(|_| line(format!("remove {:x}", random.below(keys.min(3000)))));
+        }
+        if width == 4 {
+            line("enable".to_string());
+        }
+        for _ in 0..60 {
+            let v = entries(&mut random);
+            let k = [0, 1, 2, 10, 100, 1000, 4000, 4096, 5000][random.below(9) as usize];
+            let r = [0, 1, 50, 200, 2000, 4096, 9999][random.below(7) as usize];
+            line(format!("search {k:x} 1000 {v}"));
+            line(format!("search_keyed {k:x} 1000 {v}"));
+            searches += 2;
+            if width == 4 {
+                line(format!("search_cascade {k:x} {r:x} 1000 {v}"));
+                searches += 1;
+            }
+        }
+        line("compact".to_string());
+        line(format!("search a a {}", entries(&mut random)));
+    }
+    out.flush().expect("the script is written");
+}
+
 impl<W: Write> Script<W> {
     fn line(&mut self, line: String) -> String {
         writeln!(self.out, "{line}").expect("the script is written");
