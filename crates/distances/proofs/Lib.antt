@@ -1,0 +1,3 @@
+-- Laws of the cascade's distances.
+pub mod Distance
+mod Lanes

@@ -1,0 +1,31 @@
+-- Words of the contracts on the way to a distance.
+use mathlib.Core.Bool.{cond}
+use mathlib.Core.List.{List}
+use Prim.Native.Nat.{ℕ, _/_}
+use lib.ListN.{getD}
+use lib.Dec.{ltb}
+use lib.Ieee.{Float}
+use Rattle.lists.specs.Lists.{tab}
+use Rattle.pattern.specs.Binary32.{_⊗_}
+use Rattle.lloyd.specs.Tables.{boundariesOf}
+use Rattle.lloyd.specs.Quantizer.{quantized}
+use Rattle.codes.specs.Packing.{codeAt}
+use Rattle.codes.specs.Slots.{blockAt}
+use Rattle.index.specs.Codec.{apart, total}
+use Rattle.distances.specs.Distances.{past}
+
+-- the top two bits of the code of a prepared query's entry, "the query's code taken of entry times rnorm"
+unfoldable pub topOf : (rnorm entry : Float) → ℕ
+topOf rnorm x = quantized (boundariesOf 4) (x ⊗ rnorm) / 4
+
+-- "the difference of the codes' top two bits" in a lane, of a query's top bits and a block
+unfoldable pub laneApart : (tops block : List ℕ) → ℕ → ℕ
+laneApart tops block i = apart (getD tops i 0) (codeAt 4 block i / 4)
+
+-- "the sum over lanes"
+unfoldable pub lanesApart : (tops block : List ℕ) → (lanes : ℕ) → ℕ
+lanesApart tops block n = total (tab (laneApart tops block) n)
+
+-- of a live slot's block, which has `size` bytes; `past` for a dead slot
+unfoldable pub slotApart : (codes alive : List ℕ) → (size : ℕ) → (tops : List ℕ) → (lanes : ℕ) → ℕ → ℕ
+slotApart codes alive size tops lanes i = cond (ltb 0 (getD alive i 0)) (lanesApart tops (blockAt size i codes) lanes) past

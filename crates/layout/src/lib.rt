@@ -1,0 +1,202 @@
+// The layout of a file: what each version has, where the file ends, and how long the file of an index is.
+ghost use mathlib.Core.Path.{_≡_};
+ghost use Prim.Native.Nat.{_≤_};
+ghost use Rattle.lists.specs.Keep.{bit};
+ghost use Rattle.codes.specs.Writing.{atWidth};
+ghost use Rattle.encode.specs.Header.{blockSize};
+ghost use Rattle.index.specs.Arrays.{lent};
+ghost use Rattle.index.specs.State.{headerOf};
+ghost use Rattle.index.specs.File.{versionOf};
+ghost use Rattle.index.specs.Step.{fileLength};
+ghost use Rattle.index.specs.Call.{call};
+ghost use Rattle.index.specs.Answers.{result, lengthIs};
+ghost use Rattle.layout.specs.Layout.{formOf, stageSize, keysAt, endAt};
+ghost use Rattle.layout.specs.Counts.{liveAt, entryAt, countsOf};
+use index::Index;
+use index::Written;
+
+// ---- versions
+
+// What a version of the byte form has: how many bytes a scale takes, and whether there is a width byte, a second stage, a key table.
+pub struct Form {
+    pub scale: u8,
+    pub width: bool,
+    pub second: bool,
+    pub keys: bool,
+}
+
+// How many bytes a scale takes: version 1 alone has binary32 scales.
+fn scale_size(version: u16) -> u8
+    ensures { λ r. ⌜ r ≡ (formOf version) .scale ⌝ }
+{
+    if version == 1 {
+        return 4;
+    }
+    2
+}
+
+// What a version has.
+pub fn form_of(version: u16) -> Form
+    ensures { λ r. ⌜ r ≡ formOf version ⌝ }
+{
+    Form {
+        scale: scale_size(version),
+        width: version == 261,
+        second: version == 260,
+        keys: 259 <= version,
+    }
+}
+
+// The version that an index is written as.
+pub fn version_of(index: Index) -> u16
+    ensures { λ r. ⌜ r ≡ versionOf (headerOf index) ⌝ }
+{
+    if index.residual {
+        return 260;
+    }
+    if index.bits == 4 {
+        return 259;
+    }
+    261
+}
+
+// ---- places
+
+// A yes counts one.
+fn one_if(yes: bool) -> usize
+    ensures { λ r. ⌜ r ≡ bit yes ⌝ }
+{
+    if yes {
+        return 1;
+    }
+    0
+}
+
+// How many bytes the scales and the codes of one stage take.
+fn stage_size(form: Form, block: u16, n: u32) -> usize
+    ensures { λ r. ⌜ r ≡ stageSize form block n ⌝ }
+{
+    n as usize * form.scale as usize + n as usize * block as usize
+}
+
+// Where the key table begins.
+fn keys_at(form: Form, block: u16, n: u32) -> usize
+    ensures { λ r. ⌜ r ≡ keysAt form block n ⌝ }
+{
+    let stage = stage_size(form, block, n);
+    let second = 24 + one_if(form.width) + stage;
+    if form.second {
+        return second + stage;
+    }
+    second
+}
+
+// Where the file ends, for blocks of so many bytes, n slots and k key entries.
+pub fn end_at(form: Form, block: u16, n: u32, k: u32) -> usize
+    ensures { λ r. ⌜ r ≡ endAt form block n k ⌝ }
+{
+    let keys = keys_at(form, block, n);
+    if form.keys {
+        return keys + (4 + k as usize * 12);
+    }
+    keys
+}
+
+// ---- counts
+
+// How many slots are live, and how many of these have a key.
+pub struct Counts {
+    pub live: usize,
+    pub keyed: usize,
+}
+
+// Whether a slot is live.
+pub fn is_live(alive: &[u8], slot: usize) -> bool
+    ensures { λ r. ⌜ r ≡ liveAt (now (alive .entry)) slot ⌝ }
+{
+    0 < fit::live_mark(alive, slot)
+}
+
+// Whether a slot has a key entry: it is live and has a key.
+pub fn has_entry(keyed: &[bool], alive: &[u8], slot: usize) -> bool
+    ensures { λ r. ⌜ r ≡ entryAt (now (keyed .entry)) (now (alive .entry)) slot ⌝ }
+{
+    if is_live(alive, slot) {
+        return held::is_keyed(keyed, slot);
+    }
+    false
+}
+
+// Both counts of the first n slots, in one walk.
+pub fn count_slots(keyed: &[bool], alive: &[u8], n: usize) -> Counts
+    ensures { λ r. ⌜ r ≡ countsOf (now (keyed .entry)) (now (alive .entry)) n ⌝ }
+{
+    let mut live: usize = 0;
+    let mut entries: usize = 0;
+    let mut i: usize = 0;
+    while i < n {
+        live += one_if(is_live(alive, i));
+        entries += one_if(has_entry(keyed, alive, i));
+        i += 1;
+    }
+    Counts {
+        live: live,
+        keyed: entries,
+    }
+}
+
+// ---- the length of an index's file
+
+// How many bytes a slot has of each stage.
+pub fn block_size(index: Index) -> usize
+    ensures { λ r. ⌜ r ≡ atWidth (index .bits) (blockSize (headerOf index)) ⌝ }
+{
+    codes::bytes_per_vector(rhdh::padded_dim(index.working_dim), index.bits)
+}
+
+// The length of the file of an index with these counts, its blocks being so many bytes.
+fn length_of(index: Index, block: usize, counts: Counts) -> usize
+    requires { ⌜ (block ≤ 4096) × (counts .live ≤ 65536) × (counts .keyed ≤ 65536) ⌝ }
+    ensures { λ r. ⌜ r ≡ endAt (formOf (versionOf (headerOf index))) block (counts .live) (counts .keyed) ⌝ }
+{
+    end_at(
+        form_of(version_of(index)),
+        block as u16,
+        counts.live as u32,
+        counts.keyed as u32,
+    )
+}
+
+// How many bytes the file of the index has. Refusal: 13.
+pub fn file_length(
+    index: Index,
+    codes: &[u8],
+    scales: &[u32],
+    keys: &[u64],
+    keyed: &[bool],
+    held: &[u32],
+    alive: &[u8],
+    codes2: &[u8],
+    scales2: &[u32],
+) -> Written
+    ensures { λ r. ⌜
+        result index (lent (codes .entry) (scales .entry) (keys .entry) (keyed .entry) (held .entry) (alive .entry) (codes2 .entry) (scales2 .entry)) (lengthIs r)
+        ≡ call index (lent (codes .entry) (scales .entry) (keys .entry) (keyed .entry) (held .entry) (alive .entry) (codes2 .entry) (scales2 .entry))
+        fileLength ⌝ }
+{
+    if fit::fits(
+        index,
+        codes,
+        scales,
+        keys,
+        keyed,
+        held,
+        alive,
+        codes2,
+        scales2,
+    ) {
+        let found = count_slots(keyed, alive, index.n);
+        return Written::Bytes(length_of(index, block_size(index), found));
+    }
+    Written::Refused(13)
+}

@@ -1,0 +1,3 @@
+-- What the contracts of this and of other crates cite.
+pub mod Nearest
+pub mod Limit

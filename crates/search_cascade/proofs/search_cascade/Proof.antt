@@ -1,0 +1,63 @@
+-- `search_cascade::search_cascade` meets its contract.
+use mathlib.Core.Path.{_≡_}
+use native.Mathlib.Omega.{arith}
+use lib.ListN.{length}
+use Rattle.search_cascade.proofs.Cascade.{cascade-refused, cascade-listed}
+use borrow.Author.Needs.{needs}
+use Rattle.search_cascade.proofs.search_cascade.Statement.{statement}
+use Rattle.search_cascade.proofs.search_cascade.Tie as tie
+
+cascade-fault-requires : tie.Need-cascade-fault-requires
+cascade-fault-requires c κs = search needs
+
+returns : tie.Need-returns
+returns c = cascade-refused _ _ _ _ _ _ _ (c .before .cascade-fault .ensures) _ _ (c .if1 .taken)
+
+no-marks-requires : tie.Need-no-marks-requires
+no-marks-requires c κs = search needs
+
+candidates-wanted-requires : tie.Need-candidates-wanted-requires
+candidates-wanted-requires c κs = search needs
+
+slice-aggregate-mark-nearest : tie.Need-slice-aggregate-mark-nearest
+slice-aggregate-mark-nearest c = search needs
+
+mark-nearest-requires : tie.Need-mark-nearest-requires
+mark-nearest-requires c κs = search needs
+
+slice-aggregate-list : tie.Need-slice-aggregate-list
+slice-aggregate-list c = search needs
+
+list-requires : tie.Need-list-requires
+list-requires c κs = search needs
+
+same-length : tie.Need-same-length
+same-length c = search needs
+
+same-length-2 : tie.Need-same-length-2
+same-length-2 c = search needs
+
+returns-2 : tie.Need-returns-2
+returns-2 c =
+    let listed = c .before .before .before .before .list .ensures in
+    let marked = c .before .before .before .before .before .before .before .before .before in
+    let made = marked .before .before .before in
+    let size : length (made .no-marks .result) ≡ 65536 = omega (arith, made .no-marks .ok) in
+    cascade-listed _ _ _ _ _ _ _ (made .before .before .cascade-fault .ensures) _ _ (made .before .if1 .left) (made .no-marks .result) _ size _
+    (marked .before .before .candidates-wanted .ensures) (marked .mark-nearest .ensures) _ _ _ (listed .0) (listed .1 .0) (listed .1 .1)
+
+pub search-cascade-spec : {M : Type 1} → statement M
+search-cascade-spec =
+    tie.close
+    (tie.spec
+    cascade-fault-requires
+    returns
+    no-marks-requires
+    candidates-wanted-requires
+    slice-aggregate-mark-nearest
+    mark-nearest-requires
+    slice-aggregate-list
+    list-requires
+    same-length
+    same-length-2
+    returns-2)

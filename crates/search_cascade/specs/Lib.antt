@@ -1,0 +1,2 @@
+-- What a cascade tests before any score.
+pub mod Cascade

@@ -1,0 +1,85 @@
+-- The call that writes: refused by the first test, by a file that is too short, or else the file of the value.
+use mathlib.Core.Path.{_≡_, refl, sym, ap, _∙_}
+use mathlib.Core.Bool.{Bool, true, false}
+use mathlib.Core.List.{List, _++_}
+use Prim.Native.Nat.{ℕ, _+_, _≤_, _<_}
+use native.Mathlib.Nat.{zero-add}
+use native.Mathlib.Omega.{arith}
+use lib.ListN.{length, drop}
+use lib.Seq.{sets, sets-eq}
+use lib.Dec.{ltb}
+use borrow.Author.Tests.{lt-ltb, le-ltb}
+use Rattle.lists.specs.Lists.{over}
+use Rattle.index.specs.declared.Index.{Index}
+use Rattle.index.specs.declared.Written.the-variants as Written
+use Rattle.index.specs.Arrays.{Arrays}
+use Rattle.index.specs.State.{headerOf, stateOf}
+use Rattle.index.specs.Fit.{fit}
+use Rattle.index.specs.Step.{Answer, refused, size, bytes, fileLength, write, liveFrom, fileBytes, answered, when, unless, step}
+use Rattle.index.specs.Call.{Result, call}
+use Rattle.index.specs.Answers.{result, stored, stores}
+use Rattle.index.proofs.Calls.{call-misfit, call-answered}
+use Rattle.write.specs.Put.{Put}
+use Rattle.write.specs.Pieces.{filePieces}
+use Rattle.write.proofs.Pieces.{file-pieces}
+
+module _ (x : Index) (a : Arrays) where
+  abbrev file : List ℕ
+  file = fileBytes (headerOf x) (liveFrom 0 (stateOf x a .slots))
+
+  abbrev pieces : List ℕ
+  pieces = filePieces (headerOf x) (a .codes) (a .scales) (a .keys) (a .keyed) (a .alive) (a .codes2) (a .scales2) (x .n)
+
+  -- ---- what the length tells
+
+  length-answer : fit x a ≡ true → call x a fileLength ≡ result x a (size (length file))
+  unfolding step stateOf
+  length-answer e = call-answered x a fileLength e (size (length file)) refl
+
+  pub measured : (n : ℕ) → result x a (size n) ≡ call x a fileLength → (fit x a ≡ true) × (n ≡ length file)
+  measured n r = go (fit x a) refl
+    where
+      go : (b : Bool) → fit x a ≡ b → (b ≡ true) × (n ≡ length file)
+      go true e = let f : size n ≡ size (length file) = ap (λ (z : Result). z .answer) (r ∙ length-answer e) in (refl, cc)
+      go false e =
+          let f : size n ≡ refused 13 = ap (λ (z : Result). z .answer) (r ∙ call-misfit x a fileLength e) in
+          absurd (let z : _≡_ {A = ℕ} 0 1 = cc in omega arith)
+
+  pub unmeasured : (k : ℕ) → result x a (refused k) ≡ call x a fileLength → (fit x a ≡ false) × (k ≡ 13)
+  unmeasured k r = go (fit x a) refl
+    where
+      go : (b : Bool) → fit x a ≡ b → (b ≡ false) × (k ≡ 13)
+      go true e =
+          let f : refused k ≡ size (length file) = ap (λ (z : Result). z .answer) (r ∙ length-answer e) in
+          absurd (let z : _≡_ {A = ℕ} 0 1 = cc in omega arith)
+      go false e = let f : refused k ≡ refused 13 = ap (λ (z : Result). z .answer) (r ∙ call-misfit x a fileLength e) in (refl, cc)
+
+  -- ---- the three ends
+
+  module _ (old : List ℕ) where
+    pub write-misfit : (k : ℕ) → fit x a ≡ false → k ≡ 13 → stored x a (Written.Refused k) old ≡ stores (call x a (write (length old))) old
+    write-misfit k e f = ap (λ (n : ℕ). stored x a (Written.Refused n) old) f ∙ ap (λ (r : Result). stores r old) (sym (call-misfit x a (write (length old)) e))
+
+    module _ (e : fit x a ≡ true) where
+      answer : (r : Answer) → unless (when (ltb (length old) (length file)) 13) (bytes file) ≡ r
+          → stores (result x a r) old ≡ stores (call x a (write (length old))) old
+      unfolding step stateOf
+      answer r f = ap (λ (z : Result). stores z old) (sym (call-answered x a (write (length old)) e r (ap (answered (stateOf x a)) f)))
+
+      pub write-short : (n : ℕ) → n ≡ length file → length old < n → stored x a (Written.Refused 13) old ≡ stores (call x a (write (length old))) old
+      write-short n f l = answer (refused 13) (rw (lt-ltb (length old) (length file) (omega arith)))
+
+      pub write-done : (n next : ℕ) (new : List ℕ) → n ≡ length file → n ≤ length old
+          → Put pieces 0 next old new → stored x a (Written.Bytes n) new ≡ stores (call x a (write (length old))) old
+      unfolding stateOf over
+      write-done n next new f l p =
+          (λ j. stored x a (Written.Bytes (f j)) (there j)) ∙ answer (bytes file) (rw (le-ltb (length old) (length file) (omega arith)))
+        where
+          there : new ≡ over file old
+          there =
+              p .written ∙ ap (sets old 0) (sym (file-pieces (headerOf x) a (x .n))) ∙ sets-eq file old 0 (omega (arith, f))
+              ∙ ap (λ (k : ℕ). file ++ drop k old) (zero-add (length file))
+
+  pub file-room : (n m : ℕ) → n ≡ length file → n ≤ m → 0 + length pieces ≤ m
+  unfolding stateOf
+  file-room n m f l = rw (← file-pieces (headerOf x) a (x .n)) (omega (arith, f))

@@ -1,0 +1,4 @@
+-- Laws of writing.
+mod Putting
+mod Pieces
+mod Calls
