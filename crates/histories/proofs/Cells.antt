@@ -3,17 +3,18 @@ use mathlib.Core.Path.{_≡_, refl, sym, ap, _∙_}
 use mathlib.Core.Bool.{Bool, true, false, cond}
 use mathlib.Core.List.{List, [], _∷_, _++_, map}
 use Prim.Native.Nat.{ℕ, suc, _+_, _<_}
-use native.Mathlib.Nat.{add-suc, suc-add, add-zero}
+use native.Mathlib.Nat.{add-suc, suc-add, add-zero, zero-add}
 use native.Mathlib.Omega.{arith}
 use lib.ListN.{length, getD}
+use Rattle.lists.specs.Lists.{tab}
 use Rattle.lists.specs.Keep.{keep, Each}
+use Rattle.lists.proofs.Laws.{length-tab, getD-tab}
+use Rattle.lists.proofs.Keep.{each-weaken}
 use Rattle.index.specs.State.{Slot, live}
 use Rattle.index.specs.Step.{Cell, liveFrom}
+use Rattle.index.proofs.Questions.{rename}
 use Rattle.histories.specs.Histories.{liveBy}
 use Rattle.histories.proofs.Arrivals.{Sorted}
-
-abbrev pub rename : (ℕ → ℕ) → Cell → Cell
-rename f c = record { number = f (c .number); slot = c .slot }
 
 abbrev pub onCell : (Slot → Slot) → Cell → Cell
 onCell g c = record { number = c .number; slot = g (c .slot) }
@@ -50,6 +51,19 @@ cells-below i n (s ∷ ss) e = go (live s) (omega arith) (cells-below (suc i) n 
         (cond b (record { number = i; slot = s } ∷ liveFrom (suc i) ss) (liveFrom (suc i) ss))
     go true l ih = (l, ih)
     go false l ih = ih
+
+map-own : (f : ℕ → ℕ) (cs : List Cell) → Each (λ c. f (c .number) ≡ c .number) cs → map (rename f) cs ≡ cs
+map-own f [] h = refl
+map-own f (c ∷ cs) h = rw (h .0, map-own f cs (h .1))
+
+-- slots that arrive as 0, 1, 2 in slot order
+pub cells-in-order : (n : ℕ) (ss : List Slot) → length ss ≡ n → liveBy (tab (λ i. i) n) ss ≡ liveFrom 0 ss
+cells-in-order n ss e =
+    let f : ℕ → ℕ = λ i. getD (tab (λ i. i) n) i 0 in
+    sym (cells-read f 0 (tab (λ i. i) n) ss (length-tab (λ i. i) n ∙ sym e) (λ j. ap f (zero-add j))) ∙
+    map-own f (liveFrom 0 ss)
+    (each-weaken (λ c. c .number < n) (λ c. f (c .number) ≡ c .number) (liveFrom 0 ss) (λ c l. getD-tab (λ i. i) n (c .number) 0 l)
+    (cells-below 0 n ss (sym e ∙ sym (zero-add (length ss)))))
 
 -- each slot changed by itself, no dead one revived
 pub cells-map : (g : Slot → Slot) → ((s : Slot) → live s ≡ false → live (g s) ≡ false) → (ws : List ℕ) (ss : List Slot) →

@@ -15,7 +15,8 @@ use Rattle.encode.specs.Coded.{Code, spareOf}
 use Rattle.index.specs.State.{Mark, dead, unkeyed, keyed, Slot, live, keyWord, position}
 use Rattle.index.specs.Codec.{encoded}
 use Rattle.index.specs.Step as Step
-use Rattle.index.specs.Step.{Item, Cell, any, holds, holdsAt, keyOfMark, heldBy, isHeld, numberWhere, slotHolding, onMark, removed, oneMore, rising}
+use Rattle.index.specs.Step.{Item, Cell, any, holds, holdsAt, keyOfMark, heldBy, isHeld, numberWhere, slotHolding, onMark, removed, oneMore, rising, liveFrom}
+use Rattle.index.proofs.Read.{unkeyedWord}
 use Rattle.histories.specs.Histories.{LiveArrival, isKey, carries, taken, recoded, overwritten, relabelled, ids, liveArrival, liveBy}
 use Rattle.histories.proofs.Cells.{onCell, liveCell, cellIds}
 
@@ -304,3 +305,20 @@ cells-held seen (a ∷ ws) (s ∷ ss) ls n e = go (s .mark) e (λ next ls′ e�
             record { mark = keyed k (seen k); code = s .code } ∷ rising (oneMore k seen) ss ≡ record { mark = keyed k p; code = s .code } ∷ ss
         at [] f = absurd (let z : _≡_ {A = ℕ} 0 1 = cc in omega arith)
         at (l ∷ ls′) f = key l (l .key) ls′ f
+
+-- and the other way round, where the key word of a live slot without a key is 0
+pub cells-risen : (seen : ℕ → ℕ) (i : ℕ) (ss : List Slot) → rising seen ss ≡ ss → Each (λ s. unkeyedWord (s .mark) ≡ 0) ss →
+    liveFrom i ss ≡ cellsOf seen (map liveArrival (liveFrom i ss))
+unfolding rising liveFrom
+cells-risen seen i [] e h = refl
+cells-risen seen i (s ∷ ss) e h = go (s .mark) e (h .0) (λ next f. cells-risen next (suc i) ss f (h .1))
+  where
+    go : (m : Mark) → rising seen (record { mark = m; code = s .code } ∷ ss) ≡ record { mark = m; code = s .code } ∷ ss → unkeyedWord m ≡ 0 →
+        ((next : ℕ → ℕ) → rising next ss ≡ ss → liveFrom (suc i) ss ≡ cellsOf next (map liveArrival (liveFrom (suc i) ss))) →
+        liveFrom i (record { mark = m; code = s .code } ∷ ss) ≡ cellsOf seen (map liveArrival (liveFrom i (record { mark = m; code = s .code } ∷ ss)))
+    go (dead u) e z ih = ih seen (tail-eq-of-cons-eq e)
+    go (unkeyed u) e z ih =
+        ap₂ (λ (w : ℕ) (r : List Cell). cell i (unkeyed w) (s .code) ∷ r) z (ih seen (tail-eq-of-cons-eq e))
+    go (keyed k p) e z ih =
+        ap₂ (λ (q : ℕ) (r : List Cell). cell i (keyed k q) (s .code) ∷ r) (sym (ap (λ (x : Slot). position (x .mark)) (head-eq-of-cons-eq e)))
+        (ih (oneMore k seen) (tail-eq-of-cons-eq e))

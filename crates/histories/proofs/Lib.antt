@@ -4,7 +4,6 @@ pub mod Arrivals
 pub mod Cells
 pub mod Held
 pub mod Reading
-pub mod Asked
 pub mod Tracks
 pub mod Machine
 pub mod Steps

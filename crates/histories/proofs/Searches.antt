@@ -20,9 +20,10 @@ use Rattle.index.specs.State.{Mark, Slot}
 use Rattle.index.specs.Codec.{scoreOf, tiny}
 use Rattle.index.specs.Step.{Query, scoreIs, hits, any, firstOf, when, unless, Hit, rank, hitOf, hitsOf, bySlot, queryRefusal, shortResult, searched, scoreAnswer}
 use Rattle.index.specs.History.{HistoryOp, score, search}
+use Rattle.index.proofs.Kept.{first-none, when-none}
 use Rattle.histories.specs.Histories.{LiveArrival, ids, accepted, Run, accepts, answer, scores, orderOf, times, Lists, SearchesSound, begin}
 use Rattle.histories.proofs.Lists.{each-of, mem-map, mem-length, any-none, any-mem}
-use Rattle.histories.proofs.Reading.{unless-accepted, first-none, when-none}
+use Rattle.histories.proofs.Reading.{unless-accepted}
 use Rattle.histories.proofs.Arrivals.{Sorted}
 use Rattle.histories.proofs.Held.{markFor, seenAfter, cellsOf, cells-length}
 use Rattle.histories.proofs.Tracks.{none-seen, ids-sorted, find}

@@ -1,46 +1,39 @@
--- A start is a good run: the record and the arrays fit, and no slot is in use.
-use mathlib.Core.Path.{_≡_, refl, sym, ap, ap₂, _∙_}
+-- A start is a good run: the record and the arrays fit, and the slots in use, none in a new index, hold rising positions.
+use mathlib.Core.Path.{_≡_, refl, sym, ap, ap₂, _∙_, subst}
 use mathlib.Core.Bool.{true, not, _&&_, _||_}
-use mathlib.Core.List.{[], _∷_, map}
+use mathlib.Core.List.{List, [], _∷_}
 use Prim.Native.Nat.{ℕ, zero, suc, _<_}
 use native.Mathlib.Omega.{arith}
 use lib.ListN.{length}
 use lib.Dec.{eqb}
 use borrow.Author.Tests.{le-ltb, not-false}
 use Rattle.lists.specs.Lists.{tab, over}
-use Rattle.lists.specs.Keep.{bit}
+use Rattle.lists.specs.Keep.{bit, Each}
 use Rattle.lists.proofs.Laws.{length-tab}
 use Rattle.lists.proofs.Front.{each-tab}
 use Rattle.encode.specs.declared.Header.{Header}
 use Rattle.index.specs.declared.Index.{Index}
-use Rattle.index.specs.declared.Made.{Made}
 use Rattle.index.specs.declared.Made.the-variants as Made
 use Rattle.index.specs.Arrays.{Arrays}
 use Rattle.index.specs.State.{State, headerOf, capacity, slotAt, stateOf, recordOf, overlay, joined, seconds}
 use Rattle.index.specs.Fit.{between, fit}
-use Rattle.index.specs.Step.{setBits, liveFrom, when, widthSet, guarded, Outcome, step}
+use Rattle.index.specs.Step.{setBits, when, rising, widthSet, guarded, Outcome, step}
 use Rattle.index.specs.Call.{Result, call}
 use Rattle.index.specs.Make.{empty, makeRefusal, make}
 use Rattle.index.specs.Sound.{Ranged, Sound}
+use Rattle.index.specs.Read.{slotsIn, stateIn, Reading, readInto}
 use Rattle.index.proofs.Fits.{sound-fit}
 use Rattle.index.proofs.Marks.{and-left, and-right}
-use Rattle.index.proofs.Kept.{fit-kept, call-state}
-use Rattle.histories.specs.Histories.{Making, new, withResidual, withWorkingDim, madeHeader, Start, asMade, withWidth, liveArrival, liveBy, begin}
-use Rattle.histories.proofs.Reading.{first-none, when-none}
+use Rattle.index.proofs.Kept.{first-none, when-none, fit-kept, call-state}
+use Rattle.index.proofs.Read.{recordIn, isMade, unkeyedWord, read-words, read-rises, read-fits, read-value}
+use Rattle.histories.specs.Histories.{Making, new, withResidual, withWorkingDim, madeHeader, Start, asMade, withWidth, asRead, begin}
 use Rattle.histories.proofs.Arrivals.{Sorted, sorted-more}
-use Rattle.histories.proofs.Held.{cellsOf}
+use Rattle.histories.proofs.Cells.{cells-in-order}
+use Rattle.histories.proofs.Held.{cells-risen}
 use Rattle.histories.proofs.Tracks.{none-seen}
 use Rattle.histories.proofs.Runs.{Good}
 
 -- ---- an accepted making
-
-abbrev recordIn : Index → Made → Index
-recordIn d (Made.Index y) = y
-recordIn d (Made.Refused n) = d
-
-abbrev isMade : Made → ℕ
-isMade (Made.Index y) = 1
-isMade (Made.Refused n) = 0
 
 make-accepted : (h : Header) (a : Arrays) (x : Index) → make h a ≡ Made.Index x → (makeRefusal h a ≡ 0) × (recordOf (empty h) ≡ x)
 unfolding make
@@ -110,12 +103,11 @@ arrivals-sorted : (n : ℕ) → Sorted (tab (λ i. i) n)
 arrivals-sorted zero = tt
 arrivals-sorted (suc n) = sorted-more n (tab (λ i. i) n) (arrivals-sorted n) (each-tab (λ a. a < n) (λ i. i) n (λ i l. l))
 
--- a record and arrays that fit, whose live slots hold rising positions
-pub begin-good : (x : Index) (a : Arrays) → fit x a ≡ true → liveBy (tab (λ i. i) (x .n)) (stateOf x a .slots) ≡
-    cellsOf none-seen (map liveArrival (liveFrom 0 (stateOf x a .slots))) →
-    Good (begin x a)
+-- a record and arrays that fit, whose slots hold rising positions, the key word of one without a key being 0
+begin-good : (x : Index) (a : Arrays) → fit x a ≡ true → rising none-seen (stateOf x a .slots) ≡ stateOf x a .slots →
+    Each (λ s. unkeyedWord (s .mark) ≡ 0) (stateOf x a .slots) → Good (begin x a)
 unfolding begin
-begin-good x a f c =
+begin-good x a f r w =
     record {
       fits = f;
       header = refl;
@@ -124,13 +116,20 @@ begin-good x a f c =
             places = length-tab (λ i. i) (x .n) ∙ sym (slots-in-use x a);
             sorted = arrivals-sorted (x .n);
             below = each-tab (λ b. b < x .n) (λ i. i) (x .n) (λ i l. l);
-            cells = c;
+            cells = cells-in-order (x .n) (stateOf x a .slots) (slots-in-use x a) ∙ cells-risen none-seen 0 (stateOf x a .slots) r w;
           };
     }
 
 empty-good : (x : Index) (a : Arrays) → fit x a ≡ true → x .n ≡ 0 → Good (begin x a)
-unfolding liveFrom
-empty-good x a f z = begin-good x a f (rw (none-slots x a z, z))
+unfolding rising
+empty-good x a f z = begin-good x a f (rw (none-slots x a z)) (rw (none-slots x a z) tt)
+
+-- what is read
+read-good : (file : List ℕ) (b : Arrays) (x : Index) → readInto b file .answer ≡ Made.Index x → Good (begin x (readInto b file .arrays))
+unfolding stateIn
+read-good file b x e =
+    let same : stateOf x (readInto b file .arrays) .slots ≡ slotsIn file = ap (λ (s : State). s .slots) (read-value b file x e) in
+    begin-good x (readInto b file .arrays) (read-fits b file x e) (rw same (read-rises file)) (rw same (read-words file))
 
 pub start-good : (x : Index) (a : Arrays) → Start x a → Good (begin x a)
 unfolding step
@@ -143,3 +142,5 @@ start-good x a (withWidth m y b w e f) =
     (slots-none x a
     (ap₂ (λ (z : Index) (c : Arrays). stateOf z c .slots) (sym i) (sym k) ∙ ap (λ (s : State). s .slots) (call-state y b (setBits w) (p .0)) ∙
     width-slots (stateOf y b) w (none-slots y b (p .1))))
+start-good x a (asRead file b e) =
+    subst (λ (c : Arrays). Good (begin x c)) (ap (λ (r : Reading). r .arrays) e) (read-good file b x (ap (λ (r : Reading). r .answer) e))

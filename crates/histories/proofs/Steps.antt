@@ -2,8 +2,8 @@
 use mathlib.Core.Path.{_≡_, refl, sym, ap, ap₂, _∙_, subst}
 use mathlib.Core.Bool.{Bool, true, false, not, cond, _&&_, _||_}
 use mathlib.Core.List.{List, [], _∷_, _++_, map}
-use mathlib.Core.Option.{Option, none, some}
-use Prim.Native.Nat.{ℕ, zero, suc, _+_}
+use mathlib.Core.Option.{Option, none, some, Option·map}
+use Prim.Native.Nat.{ℕ, zero, suc}
 use native.Mathlib.Nat.{add-zero}
 use native.Mathlib.Omega.{arith}
 use lib.ListN.{length, getElem?}
@@ -21,12 +21,12 @@ use Rattle.index.specs.Step.{Item, Query, Answer, refused, done, flag, slot, ma
 use Rattle.index.specs.History.{HistoryOp, add, addKeyed, addMulti, relabel, remove, compact, score, search, searchKeyed, keyOf, contains, slotOf, fileLength, write, opAt}
 use Rattle.index.proofs.Marks.{and-right}
 use Rattle.index.proofs.Refusals.{either-way}
-use Rattle.histories.specs.Histories.{LiveArrival, Told, withLiving, carries, taken, joined, overwritten, mayRelabel, relabelled, says, ids, numbered, number, arrivalAt, also, read, accepted, namesLive}
+use Rattle.index.proofs.Questions.{Slots, held-renamed, where-renamed, Asks, search-asks, searchKeyed-asks, contains-asks, slotOf-asks, length-asks, write-asks}
+use Rattle.histories.specs.Histories.{LiveArrival, Told, withLiving, carries, taken, joined, overwritten, mayRelabel, relabelled, says, ids, numbered, number, arrivalAt, read, accepted, namesLive}
 use Rattle.histories.proofs.Lists.{any-none}
 use Rattle.histories.proofs.Cells.{onCell, liveCell}
 use Rattle.histories.proofs.Held.{markFor, cellFor, cellsOf, allSeen, cells-live, held-count, held-taken, untaken, found, first-found, cells-overwritten, ids-overwritten, cells-removed, cells-relabelled}
-use Rattle.histories.proofs.Reading.{Slots, read-back}
-use Rattle.histories.proofs.Asked.{Blind, held-renamed, where-renamed, search-blind, searchKeyed-blind, contains-blind, slotOf-blind, length-blind, write-blind}
+use Rattle.histories.proofs.Reading.{read-back}
 use Rattle.histories.proofs.Tracks.{none-seen, Tracks, arrivalOf, cells-seen, numbers-read, tracks-map, tracks-more, tracks-compacted, next-read, find, live-slot}
 use Rattle.histories.proofs.Machine.{cellsIn, appending, appendingOrOver, answerOf}
 
@@ -106,15 +106,6 @@ module _ (ws : List ℕ) (t : Told) (room : ℕ) (cascade : Bool) (ss : List Slo
         answer = λ n. rw (e, f) (a n);
       }
 
-  -- a question of the live slots
-  asked : (op : HistoryOp) (ask : List Cell → Answer) → Blind ask → ask (cellsIn t) ≡ answerOf full t op → wsAfter op (ask (liveFrom 0 ss)) ≡ ws →
-      toldAfter op (ask (liveFrom 0 ss)) ≡ t →
-      Taken op (answered s (ask (liveFrom 0 ss)))
-  asked op ask blind m e f =
-      quiet op (ask (liveFrom 0 ss)) e f
-      (λ n. read-back (arrivalAt ws (ids (t .living))) (arrivalOf tr) (ask (liveFrom 0 ss)) (blind .slots _ (liveFrom 0 ss) (numbers-read tr)) ∙
-      ap some (blind .renamed (arrivalOf tr) (liveFrom 0 ss) ∙ ap ask (cells-seen tr) ∙ m))
-
   -- each slot changed by itself
   changed : (op : HistoryOp) (g : Slot → Slot) (on : Bool) (b : Answer) (ls : List LiveArrival) → wsAfter op b ≡ ws → toldAfter op b ≡ withLiving t ls →
       ((x : Slot) → live x ≡ false → live (g x) ≡ false) → keep liveCell (map (onCell g) (cellsIn t)) ≡ cellsOf none-seen ls →
@@ -157,12 +148,16 @@ module _ (ws : List ℕ) (t : Told) (room : ℕ) (cascade : Bool) (ss : List Slo
   held-now : (j : ℕ) → heldBy j (liveFrom 0 ss) ≡ heldBy j (cellsIn t)
   held-now j = sym (held-renamed j (arrivalOf tr) (liveFrom 0 ss)) ∙ ap (heldBy j) (cells-seen tr)
 
-  -- a call that is none of the changes tells nothing, whatever it answers
-  unchanged : (op : HistoryOp) (ask : List Cell → Answer) → Blind ask → ask (cellsIn t) ≡ answerOf full t op → numbered op t ws ≡ ws → says op t ≡ t →
-      Taken op (answered s (ask (liveFrom 0 ss)))
-  unchanged op ask blind m e f =
-      asked op ask blind m (ap (λ (x : List ℕ). cond (accepted (ask (liveFrom 0 ss))) x ws) e ∙ cond-same (accepted (ask (liveFrom 0 ss))) ws)
-      (ap (λ (x : Told). cond (accepted (ask (liveFrom 0 ss))) x t) f ∙ cond-same (accepted (ask (liveFrom 0 ss))) t)
+  -- a question of the live slots tells nothing, whatever is answered
+  asked : (op : HistoryOp) {ask : Header → List Cell → Answer} → Asks (opAt (number ws) op) ask → ask (t .header) (cellsIn t) ≡ answerOf full t op →
+      numbered op t ws ≡ ws → says op t ≡ t →
+      Taken op (step room s (opAt (number ws) op))
+  asked op {ask} asks m e f =
+      let b : Answer = ask (t .header) (liveFrom 0 ss) in
+      subst (Taken op) (sym (asks .asked room s))
+      (quiet op b (ap (λ (x : List ℕ). cond (accepted b) x ws) e ∙ cond-same (accepted b) ws) (ap (λ (x : Told). cond (accepted b) x t) f ∙ cond-same (accepted b) t)
+      (λ n. read-back (arrivalAt ws (ids (t .living))) (arrivalOf tr) b (asks .blind (t .header) .slots _ (liveFrom 0 ss) (numbers-read tr)) ∙
+      ap some (asks .blind (t .header) .renamed (arrivalOf tr) (liveFrom 0 ss) ∙ ap (ask (t .header)) (cells-seen tr) ∙ m)))
 
   -- a change of marks, with a yes or no
   marking : (op : HistoryOp) (f : Mark → Mark) (b : Bool) (ls : List LiveArrival) → numbered op t ws ≡ ws → (b ≡ true → says op t ≡ withLiving t ls) →
@@ -204,11 +199,11 @@ module _ (ws : List ℕ) (t : Told) (room : ℕ) (cascade : Bool) (ss : List Slo
       (ap (keyed j) (held-now j ∙ held-count j none-seen (t .living) ∙ sym (add-zero (count (carries j) (t .living))))) refl
 
   -- the slot at position 0 of the key, by arrival
-  first-seen : (j : ℕ) → also (arrivalOf tr) (slotHolding j 0 (liveFrom 0 ss)) ≡ slotHolding j 0 (cellsIn t)
+  first-seen : (j : ℕ) → Option·map (arrivalOf tr) (slotHolding j 0 (liveFrom 0 ss)) ≡ slotHolding j 0 (cellsIn t)
   first-seen j = where-renamed (holdsAt j 0) (arrivalOf tr) (liveFrom 0 ss) ∙ ap (slotHolding j 0) (cells-seen tr)
 
-  first-taken : (j : ℕ) (o : Option ℕ) → slotHolding j 0 (liveFrom 0 ss) ≡ o → found (also (arrivalOf tr) o) ≡ taken j (t .living)
-  first-taken j o e = ap (λ (x : Option ℕ). found (also (arrivalOf tr) x)) (sym e) ∙ ap found (first-seen j) ∙ first-found j none-seen refl (t .living)
+  first-taken : (j : ℕ) (o : Option ℕ) → slotHolding j 0 (liveFrom 0 ss) ≡ o → found (Option·map (arrivalOf tr) o) ≡ taken j (t .living)
+  first-taken j o e = ap (λ (x : Option ℕ). found (Option·map (arrivalOf tr) x)) (sym e) ∙ ap found (first-seen j) ∙ first-found j none-seen refl (t .living)
 
   -- of a key that no live arrival has: an append
   keyed-first : (j : ℕ) (v : Item) → slotHolding j 0 (liveFrom 0 ss) ≡ none → Taken (addKeyed j v) (appended room s (keyed j 0) v)
@@ -216,13 +211,13 @@ module _ (ws : List ℕ) (t : Told) (room : ℕ) (cascade : Bool) (ss : List Slo
   keyed-first j v e =
       let free : taken j (t .living) ≡ false = sym (first-taken j none e) in
       grown (addKeyed j v) (some j) (keyed j 0) v (rw free) (rw free) (ap (keyed j) (omega (arith, untaken j (t .living) free)))
-      (ap (appendingOrOver full t v) (sym (first-seen j) ∙ ap (also (arrivalOf tr)) e))
+      (ap (appendingOrOver full t v) (sym (first-seen j) ∙ ap (Option·map (arrivalOf tr)) e))
 
   -- of a key that one has: an overwrite
   keyed-again : (j : ℕ) (v : Item) (i : ℕ) → slotHolding j 0 (liveFrom 0 ss) ≡ some i →
       Taken (addKeyed j v) (guarded s (fault (t .header) v) (record { state = withSlots s false (map (Step.overwritten (t .header) j v) ss); answer = slot i }))
   unfolding says numbered answerOf guarded
-  keyed-again j v i e = go (fault (t .header) v) (ap (appendingOrOver full t v) (sym (first-seen j) ∙ ap (also (arrivalOf tr)) e))
+  keyed-again j v i e = go (fault (t .header) v) (ap (appendingOrOver full t v) (sym (first-seen j) ∙ ap (Option·map (arrivalOf tr)) e))
     where
       held : taken j (t .living) ≡ true
       held = sym (first-taken j (some i) e)
@@ -230,7 +225,7 @@ module _ (ws : List ℕ) (t : Told) (room : ℕ) (cascade : Bool) (ss : List Slo
       there : arrivalAt ws (ids (t .living)) i ≡ some (arrivalOf tr i)
       there =
           subst (λ (o : Option ℕ). Slots (λ x. arrivalAt ws (ids (t .living)) x ≡ some (arrivalOf tr x)) (maybeSlot o)) e
-          (slotOf-blind j 0 .slots (λ x. arrivalAt ws (ids (t .living)) x ≡ some (arrivalOf tr x)) (liveFrom 0 ss) (numbers-read tr))
+          (slotOf-asks j 0 .blind (t .header) .slots (λ x. arrivalAt ws (ids (t .living)) x ≡ some (arrivalOf tr x)) (liveFrom 0 ss) (numbers-read tr))
 
       go : (n : ℕ) → answerOf full t (addKeyed j v) ≡ unless n (slot (arrivalOf tr i)) →
           Taken (addKeyed j v) (guarded s n (record { state = withSlots s false (map (Step.overwritten (t .header) j v) ss); answer = slot i }))
@@ -269,11 +264,11 @@ module _ (ws : List ℕ) (t : Told) (room : ℕ) (cascade : Bool) (ss : List Slo
   step-taken (remove j) = remove-taken j
   step-taken compact = compact-taken
   step-taken (score a q) = score-taken a q
-  step-taken (search q k places) = unchanged (search q k places) _ (search-blind (t .header) q k places) refl refl refl
-  step-taken (searchKeyed q k places) = unchanged (searchKeyed q k places) _ (searchKeyed-blind (t .header) q k places) refl refl refl
+  step-taken (search q k places) = asked (search q k places) (search-asks q k places) refl refl refl
+  step-taken (searchKeyed q k places) = asked (searchKeyed q k places) (searchKeyed-asks q k places) refl refl refl
   step-taken (keyOf a) = quiet (keyOf a) (maybeKey (keyAnswer (getElem? ss (number ws a)))) refl refl
       (λ n. ap (λ (o : Option Slot). some (maybeKey (keyAnswer o))) (about a n))
-  step-taken (contains j) = unchanged (contains j) _ (contains-blind j) refl refl refl
-  step-taken (slotOf j i) = unchanged (slotOf j i) _ (slotOf-blind j i) refl refl refl
-  step-taken fileLength = unchanged fileLength _ (length-blind (t .header)) refl refl refl
-  step-taken (write places) = unchanged (write places) _ (write-blind (t .header) places) refl refl refl
+  step-taken (contains j) = asked (contains j) (contains-asks j) refl refl refl
+  step-taken (slotOf j i) = asked (slotOf j i) (slotOf-asks j i) refl refl refl
+  step-taken fileLength = asked fileLength length-asks refl refl refl
+  step-taken (write places) = asked (write places) (write-asks places) refl refl refl

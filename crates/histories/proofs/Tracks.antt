@@ -3,7 +3,7 @@ use mathlib.Core.Path.{_≡_, refl, sym, ap, ap₂, _∙_, subst}
 use mathlib.Core.Bool.{Bool, true, false, cond, _||_}
 use mathlib.Core.List.{List, [], _∷_, _++_, map, map-append, List·Memᴰ, List·Memᴰ·head, Memᴰ·append-right}
 use mathlib.Core.Option.{Option, none, some}
-use Prim.Native.Nat.{ℕ, zero, suc, _+_, _<_}
+use Prim.Native.Nat.{ℕ, zero, suc, _<_}
 use native.Mathlib.Nat.{zero-add}
 use native.Mathlib.Omega.{arith}
 use lib.ListN.{length, getD, getElem?, length-append, length-map}
@@ -14,10 +14,11 @@ use Rattle.lists.specs.Keep.{bit, keep, Each}
 use Rattle.lists.proofs.Keep.{each-append, each-weaken, each-mem, count-append}
 use Rattle.index.specs.State.{Slot, live}
 use Rattle.index.specs.Step.{any, Cell, liveFrom, rising, compacted}
+use Rattle.index.proofs.Questions.{rename}
 use Rattle.histories.specs.Histories.{LiveArrival, ids, number, arrivalAt, liveArrival, liveBy, isLive}
 use Rattle.histories.proofs.Lists.{each-of, mem-map}
 use Rattle.histories.proofs.Arrivals.{Sorted, sorted-more, number-all, at-number, number-at, read-number, number-first, number-later}
-use Rattle.histories.proofs.Cells.{rename, onCell, liveCell, cellIds, cells-read, cells-below, cells-map, cells-more, cells-slots, cells-again, each-ids, sorted-ids}
+use Rattle.histories.proofs.Cells.{onCell, liveCell, cellIds, cells-read, cells-below, cells-map, cells-more, cells-slots, cells-again, each-ids, sorted-ids}
 use Rattle.histories.proofs.Held.{cellFor, cellsOf, allSeen, cells-told, cells-ids, cells-live, cells-joined, cells-rising, cells-held}
 
 -- no arrival of any key came before

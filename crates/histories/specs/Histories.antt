@@ -1,11 +1,11 @@
--- Demand 3 of the mission, over the record and the lent arrays, by the very `call` that the contracts cite.
+-- Demand 3 of the mission, for new and read indexes, over the record and the lent arrays, by the very `call` that the contracts cite.
 --
 -- In the words of document 01, "Histories":
 --   history       a list, of any length, of calls (`HistoryOp` of the index), refused ones included. "Each call gets the record and the index's arrays
 --                 as the one before left them"; "Each call brings all else that it takes".
 --   arrival       "a read index's slots arrive as 0, 1, 2 in slot order; a new index has none; each accepted append is the next, an overwrite none".
---   live arrival  "live from its arrival until a whole-key removal takes it". Which these are, with key and code, is said by the calls alone: `Told` and
---                 `says` below look at no array. That the arrays agree is law `Faithful`.
+--   live arrival  "live from its arrival until a whole-key removal takes it". Which these are, with key and code, is said by the start (`begin`: none, or
+--                 what was read) and from then on by the calls alone: `Told` and `says` below look at no array. That the arrays agree is law `Faithful`.
 --   number        "how many lower arrivals were not already dead at the last compaction, all of them if there was none": `number`.
 --   legal call    it "names live slots only, each by arrival": `namesLive`. No relabelling is ruled out: the mission's proviso always holds (`Faithful`,
 --                 field `held`).
@@ -13,7 +13,7 @@
 use mathlib.Core.Path.{_≡_}
 use mathlib.Core.Bool.{Bool, true, false, not, cond, _&&_, _||_}
 use mathlib.Core.List.{List, [], _∷_, _++_, map, List·Memᴰ}
-use mathlib.Core.Option.{Option, none, some}
+use mathlib.Core.Option.{Option, none, some, Option·map}
 use Prim.Native.Nat.{ℕ, suc, min, max, _≤_}
 use lib.ListN.{length, getElem?}
 use lib.Dec.{ltb, eqb}
@@ -35,6 +35,7 @@ use Rattle.index.specs.Step.{Item, Query, Answer, refused, done, flag, slot, ma
 use Rattle.index.specs.Call.{Result, call}
 use Rattle.index.specs.Answers.{result}
 use Rattle.index.specs.Make.{newHeader, make}
+use Rattle.index.specs.Read.{readInto}
 use Rattle.index.specs.History.{HistoryOp, add, addKeyed, addMulti, relabel, remove, compact, score, search, searchKeyed, keyOf, contains, slotOf, fileLength, write, opAt}
 
 abbrev pub History : Type 0
@@ -156,17 +157,13 @@ arrivalAt ws (a ∷ more) i = cond (eqb (number ws a) i) (some a) (arrivalAt ws 
 
 -- ---- answers, "slots read by arrival"
 
-abbrev pub also : {A B : Type 0} → (A → B) → Option A → Option B
-also f none = none
-also f (some x) = some (f x)
-
 abbrev pub both : Option (ℕ × Float) → Option (List (ℕ × Float)) → Option (List (ℕ × Float))
 both none o = none
-both (some x) o = also (λ xs. x ∷ xs) o
+both (some x) o = Option·map (λ xs. x ∷ xs) o
 
 abbrev pub hitsRead : (ℕ → Option ℕ) → List (ℕ × Float) → Option (List (ℕ × Float))
 hitsRead f [] = some []
-hitsRead f (x ∷ xs) = both (also (λ a. (a, x .1)) (f (x .0))) (hitsRead f xs)
+hitsRead f (x ∷ xs) = both (Option·map (λ a. (a, x .1)) (f (x .0))) (hitsRead f xs)
 
 -- An answer with each slot's number made an arrival by f; none where f has no arrival for a number. A keyed search answers keys, and "slots in a file
 -- stay as written".
@@ -174,12 +171,12 @@ abbrev pub read : (ℕ → Option ℕ) → Answer → Option Answer
 read f (refused n) = some (refused n)
 read f done = some done
 read f (flag b) = some (flag b)
-read f (slot i) = also slot (f i)
+read f (slot i) = Option·map slot (f i)
 read f (maybeSlot none) = some (maybeSlot none)
-read f (maybeSlot (some i)) = also (λ a. maybeSlot (some a)) (f i)
+read f (maybeSlot (some i)) = Option·map (λ a. maybeSlot (some a)) (f i)
 read f (maybeKey o) = some (maybeKey o)
 read f (scoreIs x) = some (scoreIs x)
-read f (hits xs) = also hits (hitsRead f xs)
+read f (hits xs) = Option·map hits (hitsRead f xs)
 read f (keyHits xs) = some (keyHits xs)
 read f (size n) = some (size n)
 read f (bytes bs) = some (bytes bs)
@@ -262,15 +259,18 @@ madeHeader (new dim seed) = newHeader dim dim seed false
 madeHeader (withResidual dim seed) = newHeader dim dim seed true
 madeHeader (withWorkingDim dim working seed) = newHeader dim working seed false
 
--- The record x and the arrays a of a start. "a new index is just made, its width set or left as made", over any arrays: accepted calls.
+-- The record x and the arrays a of a start: accepted calls, over any arrays. "a new index is just made, its width set or left as made; a read one comes from an
+-- accepted reading".
 pub data Start (x : Index) (a : Arrays) : Type 0 where
   asMade : (m : Making) → make (madeHeader m) a ≡ Made.Index x → Start x a
   withWidth : (m : Making) (y : Index) (b : Arrays) (width : ℕ) → make (madeHeader m) b ≡ Made.Index y → call y b (setBits width) ≡ result x a done → Start x a
+  asRead : (file : List ℕ) (b : Arrays) → readInto b file ≡ record { answer = Made.Index x; arrays = a } → Start x a
 
 abbrev pub liveArrival : Cell → LiveArrival
 liveArrival c = record { arrival = c .number; key = keyOfMark (c .slot .mark); code = c .slot .code }
 
--- the slots in use "arrive as 0, 1, 2 in slot order"; a new index has none
+-- "a read index's slots arrive as 0, 1, 2 in slot order; a new index has none". What was read is what the file says, whatever the arrays held: law
+-- `read-value` of the index.
 unfoldable pub begin : Index → Arrays → Run
 begin x a =
     record {
@@ -312,7 +312,7 @@ Legal r h = Each (λ m. namesLive (m .before .told .living) (m .op) ≡ true) (m
 -- answers and file bytes, slots read by arrival."
 abbrev pub SameAnswers : Type 0
 SameAnswers =
-    (x : Index) (a : Arrays) → Start x a →  -- from one new index
+    (x : Index) (a : Arrays) → Start x a →  -- from one new (its width set) or read index
     (h₁ h₂ : History) → Legal (begin x a) h₁ → Legal (begin x a) h₂ →
     struck h₁ ≡ struck h₂ →  -- the same list once compactions are struck out
     map accepts (others (begin x a) h₁) ≡ map accepts (others (begin x a) h₂) →  -- no other call being accepted in one and refused in the other

@@ -131,7 +131,7 @@ module _ (a : Arrays) (s : State) (t : Sound (capacity (s .header) a) s) where
 
   appended-kept : (m : Mark) (v : Item) → OnceEach (ms ++ (m ∷ [])) → Kept a (appended room s m v)
   unfolding appended
-  appended-kept m v o = guarded-kept _ _ (λ e. slots-kept false (s .slots ++ (new ∷ [])) (slot (length (s .slots))) (space e) shape (rw (map-append (λ (u : Slot). u .mark) (s .slots) (new ∷ [])) o))
+  appended-kept m v o = guarded-kept _ _ (λ e. slots-kept false (s .slots ++ (new ∷ [])) _ (space e) shape (rw (map-append (λ (u : Slot). u .mark) (s .slots) (new ∷ [])) o))
     where
       new : Slot
       new = record { mark = m; code = encoded (s .header) noSpare v }

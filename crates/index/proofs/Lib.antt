@@ -10,3 +10,5 @@ pub mod Kept
 pub mod Calls
 pub mod Places
 pub mod Read
+pub mod Questions
+pub mod Appends

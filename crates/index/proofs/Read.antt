@@ -1,30 +1,29 @@
 -- What an accepted reading has passed, and that what is read is sound with rising held order.
 use mathlib.Core.Path.{_≡_, refl, sym, ap, ap₂, _∙_}
-use mathlib.Core.Bool.{Bool, true, false, not, cond, _&&_, _||_}
+use mathlib.Core.Bool.{Bool, true, false, not, cond, _||_}
 use mathlib.Core.List.{List, [], _∷_, map}
 use mathlib.Core.Option.{Option, none, some}
 use Prim.Native.Nat.{ℕ, zero, suc, _+_, _*_, _≤_, _<_}
 use native.Mathlib.Nat.{suc-mul, mul-le-mul-right}
 use native.Mathlib.Omega.{arith}
 use lib.ListN.{length, drop, length-drop}
-use lib.Dec.{leb, ltb, eqb}
+use lib.Dec.{eqb}
 use borrow.Author.Tests.{le-leb, ltb-false, eqb-true, eqb-false, ne-eqb}
 use Rattle.lists.specs.Lists.{tab}
-use Rattle.lists.specs.Keep.{bit, keep, Each}
+use Rattle.lists.specs.Keep.{bit, Each}
 use Rattle.lists.proofs.Laws.{length-tab}
 use Rattle.lists.proofs.Keep.{keep-all}
 use Rattle.lists.proofs.Front.{each-tab}
-use Rattle.encode.specs.declared.Header.{Header}
 use Rattle.encode.specs.Header.{blockSize}
 use Rattle.index.specs.declared.Index.{Index}
 use Rattle.index.specs.declared.Made.{Made}
 use Rattle.index.specs.declared.Made.the-variants as Made
 use Rattle.index.specs.Arrays.{Arrays}
-use Rattle.index.specs.State.{Mark, dead, unkeyed, keyed, Slot, State, isLive, live, capacity, stateOf, recordOf, overlay}
+use Rattle.index.specs.State.{Mark, dead, unkeyed, keyed, Slot, isLive, live, capacity, stateOf, recordOf, overlay}
 use Rattle.index.specs.Fit.{between, fit}
-use Rattle.index.specs.Step.{firstOf, when, oneMore, rising, compacted}
+use Rattle.index.specs.Step.{firstOf, oneMore, rising, compacted}
 use Rattle.index.specs.Sound.{blockLength, Shaped, AllShaped, marks, OnceEach, Ranged, Sound}
-use Rattle.index.specs.Read.{known, scaleSize, hasWidth, hasSecond, versionIn, dimIn, countIn, workingField, headerIn, headFault, overLimits, stageLength, stageFrom, KeyEntry, wellKeyed, keyFrom, markFrom, firstLength, secondLength, stagesIn, secondIn, tableIn, tableLength, entriesIn, slotIn, slotsIn, stateIn, readRefusal, readUnless, readInto}
+use Rattle.index.specs.Read.{known, scaleSize, hasWidth, hasSecond, versionIn, dimIn, countIn, workingField, headerIn, headFault, stageFrom, wellKeyed, keyFrom, markFrom, firstLength, secondLength, stagesIn, secondIn, tableIn, tableLength, entriesIn, slotIn, slotsIn, stateIn, readRefusal, readUnless, readInto}
 use Rattle.index.proofs.Blocks.{length-block}
 use Rattle.index.proofs.Overlay.{read-back}
 use Rattle.index.proofs.Fits.{sound-fit}
@@ -33,11 +32,11 @@ use Rattle.index.proofs.Kept.{first-none, when-none, rising-length, ris
 
 -- ---- what was passed
 
-all-passed : (ns : List ℕ) → firstOf ns ≡ 0 → Each (λ n. n ≡ 0) ns
+pub all-passed : (ns : List ℕ) → firstOf ns ≡ 0 → Each (λ n. n ≡ 0) ns
 all-passed [] e = tt
 all-passed (n ∷ ns) e = let p = first-none n ns e in (p .0, all-passed ns (p .1))
 
-or-none : (b c : Bool) → (b || c) ≡ false → (b ≡ false) × (c ≡ false)
+pub or-none : (b c : Bool) → (b || c) ≡ false → (b ≡ false) × (c ≡ false)
 or-none true c e = absurd (let z : _≡_ {A = ℕ} 0 1 = cc in omega arith)
 or-none false c e = (refl, e)
 
@@ -54,7 +53,7 @@ pub record Accepted (file : List ℕ) (a : Arrays) : Type 0 where
   pub table : tableLength file ≤ length (tableIn file)
   pub keys : wellKeyed (countIn file) (map (λ e. e .slot) (entriesIn file)) ≡ true
 
-not-not : (b : Bool) → not b ≡ false → b ≡ true
+pub not-not : (b : Bool) → not b ≡ false → b ≡ true
 not-not true e = refl
 not-not false e = sym e
 
@@ -92,22 +91,33 @@ rising-again seen (s ∷ ss) = go (s .mark) (λ next. rising-again next ss)
     go (unkeyed u) ih = rw (ih seen)
     go (keyed k p) ih = rw (ih (oneMore k seen))
 
--- ---- each slot is live
+-- what holds of a mark whatever its position is kept
+rising-each : (P : Mark → Type 0) → ((k p q : ℕ) → P (keyed k p) → P (keyed k q)) → (seen : ℕ → ℕ) (ss : List Slot) →
+    Each (λ s. P (s .mark)) ss → Each (λ s. P (s .mark)) (rising seen ss)
+unfolding rising
+rising-each P any seen [] h = tt
+rising-each P any seen (s ∷ ss) h = go (s .mark) (h .0) (λ next. rising-each P any next ss (h .1))
+  where
+    go : (m : Mark) → P m → ((next : ℕ → ℕ) → Each (λ s. P (s .mark)) (rising next ss)) →
+        Each (λ s. P (s .mark)) (rising seen (record { mark = m; code = s .code } ∷ ss))
+    go (dead u) e ih = (e, ih seen)
+    go (unkeyed u) e ih = (e, ih seen)
+    go (keyed k p) e ih = (any k p (seen k) e, ih (oneMore k seen))
+
+-- ---- each slot is live, and the key word of one without a key is 0
+
+abbrev pub unkeyedWord : Mark → ℕ
+unkeyedWord (dead u) = 0
+unkeyedWord (unkeyed u) = u
+unkeyedWord (keyed k p) = 0
 
 mark-live : (o : Option ℕ) → isLive (markFrom o) ≡ true
 mark-live none = refl
 mark-live (some k) = refl
 
-rising-live : (seen : ℕ → ℕ) (ss : List Slot) → Each (λ s. live s ≡ true) ss → Each (λ s. live s ≡ true) (rising seen ss)
-unfolding rising
-rising-live seen [] h = tt
-rising-live seen (s ∷ ss) h = go (s .mark) (h .0) (λ next. rising-live next ss (h .1))
-  where
-    go : (m : Mark) → isLive m ≡ true → ((next : ℕ → ℕ) → Each (λ s. live s ≡ true) (rising next ss)) →
-        Each (λ s. live s ≡ true) (rising seen (record { mark = m; code = s .code } ∷ ss))
-    go (dead u) e ih = (e, ih seen)
-    go (unkeyed u) e ih = (e, ih seen)
-    go (keyed k p) e ih = (e, ih (oneMore k seen))
+mark-word : (o : Option ℕ) → unkeyedWord (markFrom o) ≡ 0
+mark-word none = refl
+mark-word (some k) = refl
 
 -- ---- the value
 
@@ -122,7 +132,13 @@ module _ (file : List ℕ) where
   -- all slots that are read are live, and there are as many as the file says
   pub read-live : Each (λ s. live s ≡ true) (slotsIn file)
   unfolding slotsIn
-  read-live = rising-live (λ k. 0) loose loose-live
+  read-live = rising-each (λ m. isLive m ≡ true) (λ k p q e. e) (λ k. 0) loose loose-live
+
+  pub read-words : Each (λ s. unkeyedWord (s .mark) ≡ 0) (slotsIn file)
+  unfolding slotsIn slotIn
+  read-words =
+      rising-each (λ m. unkeyedWord m ≡ 0) (λ k p q e. e) (λ k. 0) loose
+      (each-tab (λ s. unkeyedWord (s .mark) ≡ 0) (slotIn file) (countIn file) (λ i l. mark-word (keyFrom (entriesIn file) i)))
 
   pub read-length : length (slotsIn file) ≡ countIn file
   unfolding slotsIn
@@ -188,15 +204,15 @@ module _ (file : List ℕ) where
 
 -- ---- an accepted reading
 
+abbrev pub recordIn : Index → Made → Index
+recordIn d (Made.Index y) = y
+recordIn d (Made.Refused n) = d
+
+abbrev pub isMade : Made → ℕ
+isMade (Made.Index y) = 1
+isMade (Made.Refused n) = 0
+
 module _ (a : Arrays) (file : List ℕ) where
-  abbrev recordIn : Index → Made → Index
-  recordIn d (Made.Index y) = y
-  recordIn d (Made.Refused n) = d
-
-  abbrev isRead : Made → ℕ
-  isRead (Made.Index y) = 1
-  isRead (Made.Refused n) = 0
-
   -- the record is that of the value read, which is written over the arrays
   pub record ReadAs (x : Index) : Type 0 where
     pub passed : Accepted file a
@@ -209,7 +225,7 @@ module _ (a : Arrays) (file : List ℕ) where
     where
       go : (n : ℕ) → readRefusal file a ≡ n → readUnless n a file .answer ≡ Made.Index x → ReadAs x
       go zero f g = record { passed = accepted file a f; record-is = sym (ap (recordIn x) g); arrays-are = ap (λ (m : ℕ). readUnless m a file .arrays) f }
-      go (suc n) f g = absurd (omega (arith, ap isRead g))
+      go (suc n) f g = absurd (omega (arith, ap isMade g))
 
   module _ (x : Index) (e : readInto a file .answer ≡ Made.Index x) where
     -- record and arrays fit
