@@ -8,15 +8,21 @@
 //   relabel OLD NEW, remove KEY, remove_at KEY SLOT
 //   key_of SLOT, contains KEY, slot_at KEY POSITION
 //   score SLOT VEC
+//   search K PLACES VEC, search_keyed K PLACES VEC, search_cascade K R PLACES VEC
+//   length, write PLACES, read BYTES                         the file's length, the file, an index from a file
 //   dump                                                     the record and the arrays
+ghost use mathlib.Core.Path.{_≡_};
+ghost use mathlib.Core.Bool.{cond};
 ghost use Prim.Native.Nat.{_-_, _≤_};
 use index::Added;
 use index::Asked;
 use index::Changed;
+use index::Found;
 use index::Held;
 use index::Index;
 use index::Keyed;
 use index::Made;
+use index::Written;
 use lines::Cursor;
 use score::Scored;
 use text::Number;
@@ -60,26 +66,7 @@ fn marks() -> [u8; 4096] {
 fn main() {
     let mut buf = input();
     let mut out = output();
-    let mut codes = code_bytes();
-    let mut scales = words();
-    let mut keys = key_words();
-    let mut keyed = flags();
-    let mut held = words();
-    let mut alive = marks();
-    let mut codes2 = code_bytes();
-    let mut scales2 = words();
-    run(
-        &mut buf,
-        &mut out,
-        &mut codes,
-        &mut scales,
-        &mut keys,
-        &mut keyed,
-        &mut held,
-        &mut alive,
-        &mut codes2,
-        &mut scales2,
-    );
+    run(&mut buf, &mut out);
 }
 
 // How many elements of each array are lent.
@@ -121,22 +108,75 @@ fn first_record() -> Index {
     }
 }
 
-// After a line: the record, the lent lengths, and how long the answer in out is.
+// After a line: the record, the lent lengths and whether they are new, and how long the answer in out is.
 struct Answered {
     index: Index,
     lent: Lengths,
+    fresh: bool,
     length: usize,
 }
 
-// What is carried from line to line.
+// What is carried from line to line. `fresh` says that the line lent arrays anew.
 struct State {
     cursor: Cursor,
     index: Index,
     lent: Lengths,
+    fresh: bool,
 }
 
-// Answers line after line.
-fn run(
+// Answers all lines.
+fn run(buf: &mut [u8], out: &mut [u8]) {
+    let mut state = State {
+        cursor: lines::next_line(buf, lines::start()),
+        index: first_record(),
+        lent: no_lengths(),
+        fresh: false,
+    };
+    while 0 < state.cursor.left {
+        let next = answer_with_fresh(buf, out, state);
+        state = next;
+    }
+}
+
+// Answers lines over arrays that are all 0, up to the line that lends arrays anew.
+fn answer_with_fresh(buf: &mut [u8], out: &mut [u8], state: State) -> State
+    ensures { λ r. ⌜ r .cursor .left ≤ state .cursor .left - 1 ⌝ }
+{
+    let mut codes = code_bytes();
+    let mut scales = words();
+    let mut keys = key_words();
+    let mut keyed = flags();
+    let mut held = words();
+    let mut alive = marks();
+    let mut codes2 = code_bytes();
+    let mut scales2 = words();
+    answer_lines(
+        buf,
+        out,
+        &mut codes,
+        &mut scales,
+        &mut keys,
+        &mut keyed,
+        &mut held,
+        &mut alive,
+        &mut codes2,
+        &mut scales2,
+        state,
+    )
+}
+
+// How many bytes are left for these arrays: none once arrays were lent anew.
+fn left_for(fresh: bool, left: u64) -> u64
+    ensures { λ r. ⌜ r ≡ cond fresh 0 left ⌝ }
+{
+    if fresh {
+        return 0;
+    }
+    left
+}
+
+// Answers a line, and those after it up to one that lends arrays anew.
+fn answer_lines(
     buf: &mut [u8],
     out: &mut [u8],
     codes: &mut [u8],
@@ -147,13 +187,13 @@ fn run(
     alive: &mut [u8],
     codes2: &mut [u8],
     scales2: &mut [u32],
-) {
-    let mut state = State {
-        cursor: lines::next_line(buf, lines::start()),
-        index: first_record(),
-        lent: no_lengths(),
-    };
-    while 0 < state.cursor.left {
+    first: State,
+) -> State
+    ensures { λ r. ⌜ r .cursor .left ≤ first .cursor .left - 1 ⌝ }
+{
+    let mut state = first;
+    let mut fresh = false;
+    while 0 < left_for(fresh, state.cursor.left) {
         let next = turn(
             buf,
             out,
@@ -168,7 +208,9 @@ fn run(
             state,
         );
         state = next;
+        fresh = state.fresh;
     }
+    state
 }
 
 // One line, answered, and the next one read.
@@ -205,13 +247,14 @@ fn turn(
         index,
         lent,
     );
-    text::print_line(out, a.length);
+    print::print_line(out, a.length);
     let next = a.index;
     let parts = a.lent;
     State {
         cursor: lines::next_line(buf, cursor),
         index: next,
         lent: parts,
+        fresh: a.fresh,
     }
 }
 
@@ -233,20 +276,7 @@ fn answer(
 ) -> Answered {
     let c = kind(line, long);
     if c == 0 {
-        return answer_lend(
-            line,
-            out,
-            codes,
-            scales,
-            keys,
-            keyed,
-            held,
-            alive,
-            codes2,
-            scales2,
-            index,
-            lent,
-        );
+        return answer_lend(line, out, index, lent);
     }
     let r = lend_first(
         c,
@@ -267,6 +297,7 @@ fn answer(
     Answered {
         index: next,
         lent: lent,
+        fresh: false,
         length: r.length,
     }
 }
@@ -344,13 +375,13 @@ fn lend_last(
     )
 }
 
-// The number of a line's command; 20 where there is no such command, or the line is too long to be read, and 21 where nothing is asked.
+// The number of a line's command; 26 where there is no such command, or the line is too long to be read, and 27 where nothing is asked.
 fn kind(line: &[u8], long: bool) -> usize {
     if long {
-        return 20;
+        return 26;
     }
     if text::is_silent(line) {
-        return 21;
+        return 27;
     }
     command(text::field(line, 0))
 }
@@ -358,12 +389,12 @@ fn kind(line: &[u8], long: bool) -> usize {
 // The number of a command: its place in this list.
 fn command(word: &[u8]) -> usize {
     let words =
-        b"lend set field dump new working residual bits enable compact relabel remove remove_at key_of contains slot_at add add_keyed add_multi score";
+        b"lend set field dump new working residual bits enable compact relabel remove remove_at key_of contains slot_at add add_keyed add_multi score search search_keyed search_cascade length write read";
     text::word_number(words, word)
 }
 
 fn capped(n: usize, most: usize) -> usize
-    ensures { λ r. ⌜ r ≤ most ⌝ }
+    ensures { λ r. ⌜ (r ≤ n) × (r ≤ most) ⌝ }
 {
     if n < most {
         return n;
@@ -373,80 +404,39 @@ fn capped(n: usize, most: usize) -> usize
 
 // ---- lending
 
-fn answer_lend(
-    line: &[u8],
-    out: &mut [u8],
-    codes: &mut [u8],
-    scales: &mut [u32],
-    keys: &mut [u64],
-    keyed: &mut [bool],
-    held: &mut [u32],
-    alive: &mut [u8],
-    codes2: &mut [u8],
-    scales2: &mut [u32],
-    index: Index,
-    lent: Lengths,
-) -> Answered {
-    if !are_lengths(
-        line,
-        codes.len(),
-        scales.len(),
-        keys.len(),
-        keyed.len(),
-        held.len(),
-        alive.len(),
-        codes2.len(),
-        scales2.len(),
-    ) {
+// The arrays are cleared by making them anew.
+fn answer_lend(line: &[u8], out: &mut [u8], index: Index, lent: Lengths) -> Answered {
+    if !are_lengths(line) {
         return Answered {
             index: index,
             lent: lent,
-            length: text::put_unreadable(out),
+            fresh: false,
+            length: print::put_unreadable(out),
         };
     }
-    clear(
-        longest(lent),
-        codes,
-        scales,
-        keys,
-        keyed,
-        held,
-        alive,
-        codes2,
-        scales2,
-    );
     Answered {
         index: index,
         lent: lengths_of(line),
-        length: text::put_bytes(out, 0, b"ok"),
+        fresh: true,
+        length: print::put_bytes(out, 0, b"ok"),
     }
 }
 
 // Whether the line has a length for each array, at most what the program holds.
-fn are_lengths(
-    line: &[u8],
-    codes: usize,
-    scales: usize,
-    keys: usize,
-    keyed: usize,
-    held: usize,
-    alive: usize,
-    codes2: usize,
-    scales2: usize,
-) -> bool {
-    let first = is_length(line, 1, codes)
-        && is_length(line, 2, scales)
-        && is_length(line, 3, keys)
-        && is_length(line, 4, keyed);
-    let last = is_length(line, 5, held)
-        && is_length(line, 6, alive)
-        && is_length(line, 7, codes2)
-        && is_length(line, 8, scales2);
+fn are_lengths(line: &[u8]) -> bool {
+    let first = is_length(line, 1, 1048576)
+        && is_length(line, 2, 4096)
+        && is_length(line, 3, 4096)
+        && is_length(line, 4, 4096);
+    let last = is_length(line, 5, 4096)
+        && is_length(line, 6, 4096)
+        && is_length(line, 7, 1048576)
+        && is_length(line, 8, 4096);
     first && last && text::field_count(line) == 9
 }
 
-fn is_length(line: &[u8], i: usize, most: usize) -> bool {
-    text::number_at(line, i, most as u64).ok
+fn is_length(line: &[u8], i: usize, most: u64) -> bool {
+    text::number_at(line, i, most).ok
 }
 
 fn length_at(line: &[u8], i: usize) -> usize {
@@ -466,65 +456,6 @@ fn lengths_of(line: &[u8]) -> Lengths {
     }
 }
 
-fn greater(a: usize, b: usize) -> usize {
-    if a < b {
-        return b;
-    }
-    a
-}
-
-fn longest(lent: Lengths) -> usize {
-    let first = greater(
-        greater(lent.codes, lent.scales),
-        greater(lent.keys, lent.keyed),
-    );
-    let last = greater(
-        greater(lent.held, lent.alive),
-        greater(lent.codes2, lent.scales2),
-    );
-    greater(first, last)
-}
-
-// Clears the first n elements of each array, as far as it has them. Those past the lent ones are clear: no call can reach them.
-fn clear(
-    n: usize,
-    codes: &mut [u8],
-    scales: &mut [u32],
-    keys: &mut [u64],
-    keyed: &mut [bool],
-    held: &mut [u32],
-    alive: &mut [u8],
-    codes2: &mut [u8],
-    scales2: &mut [u32],
-) {
-    let mut i = 0;
-    while i < n {
-        clear_place(i, codes, scales, keys, keyed, held, alive, codes2, scales2);
-        i += 1;
-    }
-}
-
-fn clear_place(
-    i: usize,
-    codes: &mut [u8],
-    scales: &mut [u32],
-    keys: &mut [u64],
-    keyed: &mut [bool],
-    held: &mut [u32],
-    alive: &mut [u8],
-    codes2: &mut [u8],
-    scales2: &mut [u32],
-) {
-    poke_byte(codes, i, 0);
-    poke_word(scales, i, 0);
-    poke_key(keys, i, 0);
-    poke_flag(keyed, i, 0);
-    poke_word(held, i, 0);
-    poke_byte(alive, i, 0);
-    poke_byte(codes2, i, 0);
-    poke_word(scales2, i, 0);
-}
-
 // ---- what a line brings
 
 // Whether it can be read, and its numbers; 0 for one that it hasn't.
@@ -535,32 +466,58 @@ struct Request {
     c: u64,
 }
 
-// How many fields a line of the command has.
-fn field_total(c: usize) -> usize {
+// How many numbers a line of the command has.
+fn number_count(c: usize) -> usize
+    ensures { λ r. ⌜ r ≤ 3 ⌝ }
+{
     match c {
-        3 | 8 | 9 => 1,
-        7 | 11 | 13 | 14 | 16 => 2,
-        4 | 6 | 10 | 12 | 15 | 17 | 18 | 19 => 3,
-        _ => 4,
-    }
-}
-
-// How many of them are numbers.
-fn number_count(c: usize) -> usize {
-    match c {
-        3 | 8 | 9 | 16 => 0,
-        7 | 11 | 13 | 14 | 17 | 18 | 19 => 1,
-        4 | 6 | 10 | 12 | 15 => 2,
+        3 | 8 | 9 | 16 | 23 | 25 => 0,
+        7 | 11 | 13 | 14 | 17 | 18 | 19 | 24 => 1,
+        4 | 6 | 10 | 12 | 15 | 20 | 21 => 2,
         _ => 3,
     }
 }
 
-// The greatest first number: that of a width call is a u8.
-fn greatest(c: usize) -> u64 {
+// Whether a vector comes after them.
+fn has_vector(c: usize) -> bool {
+    15 < c && c < 23
+}
+
+// Whether a vector or a run of bytes does.
+fn has_run(c: usize) -> bool {
+    has_vector(c) || c == 25
+}
+
+// How many fields it has, the command's word among them.
+fn field_total(c: usize) -> usize {
+    if has_run(c) {
+        return number_count(c) + 2;
+    }
+    number_count(c) + 1
+}
+
+// Which of the numbers says how many places are lent; 0 where none does.
+fn places_number(c: usize) -> usize {
+    match c {
+        24 => 1,
+        20 | 21 => 2,
+        22 => 3,
+        _ => 0,
+    }
+}
+
+// The greatest value of number i: a width is a u8, and the program has so many places for a file and for hits.
+fn greatest(c: usize, i: usize) -> u64 {
     if c == 7 {
         return 0xFF;
     }
-    u64::MAX
+    if i != places_number(c) {
+        return u64::MAX;
+    }
+    if c == 24 {
+        return 65536;
+    }
+    4096
 }
 
 // Number i of a line, or 0 where it has no more than n.
@@ -573,11 +530,11 @@ fn argument(line: &[u8], i: usize, n: usize, most: u64) -> Number {
 
 fn request_of(line: &[u8], c: usize) -> Request {
     let n = number_count(c);
-    let x = argument(line, 1, n, greatest(c));
-    let y = argument(line, 2, n, u64::MAX);
-    let z = argument(line, 3, n, u64::MAX);
+    let x = argument(line, 1, n, greatest(c, 1));
+    let y = argument(line, 2, n, greatest(c, 2));
+    let z = argument(line, 3, n, greatest(c, 3));
     Request {
-        ok: x.ok && y.ok && z.ok && text::field_count(line) == field_total(c) && c < 20,
+        ok: x.ok && y.ok && z.ok && text::field_count(line) == field_total(c) && c < 26,
         a: x.value,
         b: y.value,
         c: z.value,
@@ -624,7 +581,7 @@ fn reply(
     if c == 2 {
         return reply_field(line, out, index);
     }
-    if c == 21 {
+    if c == 27 {
         return Replied {
             index: index,
             length: 0,
@@ -634,11 +591,26 @@ fn reply(
     if !q.ok {
         return unreadable(out, index);
     }
-    if 15 < c {
+    if c == 25 {
+        return reply_read(
+            line,
+            out,
+            codes,
+            scales,
+            keys,
+            keyed,
+            held,
+            alive,
+            codes2,
+            scales2,
+            index,
+        );
+    }
+    if has_vector(c) {
         return reply_vector(
             c,
             line,
-            q.a,
+            q,
             out,
             codes,
             scales,
@@ -663,6 +635,42 @@ fn reply(
         alive,
         codes2,
         scales2,
+        index,
+    )
+}
+
+fn reply_read(
+    line: &[u8],
+    out: &mut [u8],
+    codes: &mut [u8],
+    scales: &mut [u32],
+    keys: &mut [u64],
+    keyed: &mut [bool],
+    held: &mut [u32],
+    alive: &mut [u8],
+    codes2: &mut [u8],
+    scales2: &mut [u32],
+    index: Index,
+) -> Replied {
+    let mut file = file_places();
+    let run = text::bytes_at(line, 1, &mut file);
+    if !run.ok {
+        return unreadable(out, index);
+    }
+    let n = run.length;
+    put_made(
+        out,
+        read::from_bytes(
+            codes,
+            scales,
+            keys,
+            keyed,
+            held,
+            alive,
+            codes2,
+            scales2,
+            &file[0..n],
+        ),
         index,
     )
 }
@@ -987,6 +995,37 @@ fn ask(
             ),
         );
     }
+    if c == 23 {
+        return put_length(
+            out,
+            layout::file_length(
+                index,
+                codes,
+                scales,
+                keys,
+                keyed,
+                held,
+                alive,
+                codes2,
+                scales2,
+            ),
+        );
+    }
+    if c == 24 {
+        return write_file(
+            q,
+            out,
+            codes,
+            scales,
+            keys,
+            keyed,
+            held,
+            alive,
+            codes2,
+            scales2,
+            index,
+        );
+    }
     put_held(
         out,
         keys::slot_at(
@@ -1005,18 +1044,10 @@ fn ask(
     )
 }
 
-// Where its vector stands.
-fn vector_place(c: usize) -> usize {
-    if c == 16 {
-        return 1;
-    }
-    2
-}
-
 fn reply_vector(
     c: usize,
     line: &[u8],
-    number: u64,
+    q: Request,
     out: &mut [u8],
     codes: &mut [u8],
     scales: &mut [u32],
@@ -1029,29 +1060,28 @@ fn reply_vector(
     index: Index,
 ) -> Replied {
     let mut v = entries();
-    let run = text::vector_at(line, vector_place(c), &mut v);
+    let run = text::vector_at(line, number_count(c) + 1, &mut v);
     if !run.ok {
         return unreadable(out, index);
     }
     let n = run.length;
-    if c == 19 {
+    if 18 < c {
         return Replied {
             index: index,
-            length: put_score(
+            length: look_up(
+                c,
+                q,
+                &v[0..n],
                 out,
-                score_slot::score(
-                    index,
-                    codes,
-                    scales,
-                    keys,
-                    keyed,
-                    held,
-                    alive,
-                    codes2,
-                    scales2,
-                    number as usize,
-                    &v[0..n],
-                ),
+                codes,
+                scales,
+                keys,
+                keyed,
+                held,
+                alive,
+                codes2,
+                scales2,
+                index,
             ),
         };
     }
@@ -1059,7 +1089,7 @@ fn reply_vector(
         out,
         add_vector(
             c,
-            number,
+            q.a,
             &v[0..n],
             codes,
             scales,
@@ -1133,35 +1163,373 @@ fn add_vector(
     )
 }
 
+// ---- look-up
+
+fn look_up(
+    c: usize,
+    q: Request,
+    v: &[f32],
+    out: &mut [u8],
+    codes: &[u8],
+    scales: &[u32],
+    keys: &[u64],
+    keyed: &[bool],
+    held: &[u32],
+    alive: &[u8],
+    codes2: &[u8],
+    scales2: &[u32],
+    index: Index,
+) -> usize {
+    if c == 19 {
+        return put_score(
+            out,
+            score_slot::score(
+                index,
+                codes,
+                scales,
+                keys,
+                keyed,
+                held,
+                alive,
+                codes2,
+                scales2,
+                q.a as usize,
+                v,
+            ),
+        );
+    }
+    if c == 21 {
+        return list_keys(
+            q,
+            v,
+            out,
+            codes,
+            scales,
+            keys,
+            keyed,
+            held,
+            alive,
+            codes2,
+            scales2,
+            index,
+        );
+    }
+    list_slots(
+        c,
+        q,
+        v,
+        out,
+        codes,
+        scales,
+        keys,
+        keyed,
+        held,
+        alive,
+        codes2,
+        scales2,
+        index,
+    )
+}
+
+// Places for results. Each holds a mark, by which a change is seen.
+fn slot_places() -> [u32; 4096] {
+    [0xFFFF_FFFF; 4096]
+}
+
+fn key_places() -> [u64; 4096] {
+    [0xFFFF_FFFF_FFFF_FFFF; 4096]
+}
+
+fn score_places() -> [f32; 4096] {
+    [1.0; 4096]
+}
+
+fn file_places() -> [u8; 65536] {
+    [0xFF; 65536]
+}
+
+fn wide(x: u32) -> u64 {
+    x as u64
+}
+
+fn wide_byte(x: u8) -> u64 {
+    x as u64
+}
+
+// Slots as numbers of the size of keys.
+fn widen(slots: &[u32], numbers: &mut [u64]) {
+    let end = capped(slots.len(), numbers.len());
+    let mut i = 0;
+    while i < end {
+        numbers[i] = wide(slots[i]);
+        i += 1;
+    }
+}
+
+fn put_widened(
+    out: &mut [u8],
+    found: Found,
+    slots: &[u32],
+    numbers: &mut [u64],
+    scores: &[f32],
+) -> usize {
+    widen(slots, numbers);
+    put_found(out, found, numbers, 0xFFFF_FFFF, scores)
+}
+
+fn put_slots(out: &mut [u8], found: Found, slots: &[u32], scores: &[f32]) -> usize {
+    let mut numbers = key_places();
+    let n = capped(slots.len(), 4096);
+    put_widened(out, found, slots, &mut numbers[0..n], scores)
+}
+
+fn list_slots(
+    c: usize,
+    q: Request,
+    v: &[f32],
+    out: &mut [u8],
+    codes: &[u8],
+    scales: &[u32],
+    keys: &[u64],
+    keyed: &[bool],
+    held: &[u32],
+    alive: &[u8],
+    codes2: &[u8],
+    scales2: &[u32],
+    index: Index,
+) -> usize {
+    let mut slots = slot_places();
+    let mut scores = score_places();
+    let n = capped(places(c, q), 4096);
+    search_slots(
+        c,
+        q,
+        v,
+        out,
+        codes,
+        scales,
+        keys,
+        keyed,
+        held,
+        alive,
+        codes2,
+        scales2,
+        index,
+        &mut slots[0..n],
+        &mut scores[0..n],
+    )
+}
+
+fn search_slots(
+    c: usize,
+    q: Request,
+    v: &[f32],
+    out: &mut [u8],
+    codes: &[u8],
+    scales: &[u32],
+    keys: &[u64],
+    keyed: &[bool],
+    held: &[u32],
+    alive: &[u8],
+    codes2: &[u8],
+    scales2: &[u32],
+    index: Index,
+    slots: &mut [u32],
+    scores: &mut [f32],
+) -> usize {
+    if c == 20 {
+        let found = search::search(
+            index,
+            codes,
+            scales,
+            keys,
+            keyed,
+            held,
+            alive,
+            codes2,
+            scales2,
+            v,
+            q.a as usize,
+            slots,
+            scores,
+        );
+        return put_slots(out, found, slots, scores);
+    }
+    let found = search_cascade::search_cascade(
+        index,
+        codes,
+        scales,
+        keys,
+        keyed,
+        held,
+        alive,
+        codes2,
+        scales2,
+        v,
+        q.a as usize,
+        q.b as usize,
+        slots,
+        scores,
+    );
+    put_slots(out, found, slots, scores)
+}
+
+fn list_keys(
+    q: Request,
+    v: &[f32],
+    out: &mut [u8],
+    codes: &[u8],
+    scales: &[u32],
+    keys: &[u64],
+    keyed: &[bool],
+    held: &[u32],
+    alive: &[u8],
+    codes2: &[u8],
+    scales2: &[u32],
+    index: Index,
+) -> usize {
+    let mut names = key_places();
+    let mut scores = score_places();
+    let n = capped(q.b as usize, 4096);
+    search_keys(
+        q,
+        v,
+        out,
+        codes,
+        scales,
+        keys,
+        keyed,
+        held,
+        alive,
+        codes2,
+        scales2,
+        index,
+        &mut names[0..n],
+        &mut scores[0..n],
+    )
+}
+
+fn search_keys(
+    q: Request,
+    v: &[f32],
+    out: &mut [u8],
+    codes: &[u8],
+    scales: &[u32],
+    keys: &[u64],
+    keyed: &[bool],
+    held: &[u32],
+    alive: &[u8],
+    codes2: &[u8],
+    scales2: &[u32],
+    index: Index,
+    names: &mut [u64],
+    scores: &mut [f32],
+) -> usize {
+    let found = search_keyed::search_keyed(
+        index,
+        codes,
+        scales,
+        keys,
+        keyed,
+        held,
+        alive,
+        codes2,
+        scales2,
+        v,
+        q.a as usize,
+        names,
+        scores,
+    );
+    put_found(out, found, names, 0xFFFF_FFFF_FFFF_FFFF, scores)
+}
+
+fn write_file(
+    q: Request,
+    out: &mut [u8],
+    codes: &[u8],
+    scales: &[u32],
+    keys: &[u64],
+    keyed: &[bool],
+    held: &[u32],
+    alive: &[u8],
+    codes2: &[u8],
+    scales2: &[u32],
+    index: Index,
+) -> usize {
+    let mut file = file_places();
+    let n = capped(q.a as usize, 65536);
+    write_into(
+        out,
+        codes,
+        scales,
+        keys,
+        keyed,
+        held,
+        alive,
+        codes2,
+        scales2,
+        index,
+        &mut file[0..n],
+    )
+}
+
+fn write_into(
+    out: &mut [u8],
+    codes: &[u8],
+    scales: &[u32],
+    keys: &[u64],
+    keyed: &[bool],
+    held: &[u32],
+    alive: &[u8],
+    codes2: &[u8],
+    scales2: &[u32],
+    index: Index,
+    file: &mut [u8],
+) -> usize {
+    let written = write::to_bytes(
+        index,
+        codes,
+        scales,
+        keys,
+        keyed,
+        held,
+        alive,
+        codes2,
+        scales2,
+        file,
+    );
+    put_file(out, written, file)
+}
+
 // ---- answers in words
 
 fn unreadable(out: &mut [u8], index: Index) -> Replied {
     Replied {
         index: index,
-        length: text::put_unreadable(out),
+        length: print::put_unreadable(out),
     }
 }
 
-fn put_refused(out: &mut [u8], number: u8) -> usize {
-    let at = text::put_bytes(out, 0, b"refused ");
-    text::put_decimal(out, at, number as u64)
+fn put_refused(out: &mut [u8], at: usize, number: u8) -> usize {
+    let next = print::put_bytes(out, at, b"refused ");
+    print::put_decimal(out, next, number as u64)
 }
 
 // A word and a number.
 fn put_with(out: &mut [u8], word: &[u8], number: u64) -> usize {
-    let at = text::put_bytes(out, 0, word);
-    text::put_hex(out, at, number, 1)
+    let at = print::put_bytes(out, 0, word);
+    print::put_hex(out, at, number, 1)
 }
 
 fn put_made(out: &mut [u8], made: Made, index: Index) -> Replied {
     match made {
         Made::Index(x) => Replied {
             index: x,
-            length: text::put_bytes(out, 0, b"ok"),
+            length: print::put_bytes(out, 0, b"ok"),
         },
         Made::Refused(n) => Replied {
             index: index,
-            length: put_refused(out, n),
+            length: put_refused(out, 0, n),
         },
     }
 }
@@ -1170,15 +1538,15 @@ fn put_changed(out: &mut [u8], changed: Changed, index: Index) -> Replied {
     match changed {
         Changed::Yes(x) => Replied {
             index: x,
-            length: text::put_bytes(out, 0, b"yes"),
+            length: print::put_bytes(out, 0, b"yes"),
         },
         Changed::No => Replied {
             index: index,
-            length: text::put_bytes(out, 0, b"no"),
+            length: print::put_bytes(out, 0, b"no"),
         },
         Changed::Refused(n) => Replied {
             index: index,
-            length: put_refused(out, n),
+            length: put_refused(out, 0, n),
         },
     }
 }
@@ -1191,7 +1559,7 @@ fn put_added(out: &mut [u8], added: Added, index: Index) -> Replied {
         },
         Added::Refused(n) => Replied {
             index: index,
-            length: put_refused(out, n),
+            length: put_refused(out, 0, n),
         },
     }
 }
@@ -1199,34 +1567,146 @@ fn put_added(out: &mut [u8], added: Added, index: Index) -> Replied {
 fn put_key(out: &mut [u8], key: Keyed) -> usize {
     match key {
         Keyed::Key(k) => put_with(out, b"key ", k),
-        Keyed::None => text::put_bytes(out, 0, b"none"),
-        Keyed::Refused(n) => put_refused(out, n),
+        Keyed::None => print::put_bytes(out, 0, b"none"),
+        Keyed::Refused(n) => put_refused(out, 0, n),
     }
 }
 
 fn put_asked(out: &mut [u8], asked: Asked) -> usize {
     match asked {
-        Asked::Yes => text::put_bytes(out, 0, b"yes"),
-        Asked::No => text::put_bytes(out, 0, b"no"),
-        Asked::Refused(n) => put_refused(out, n),
+        Asked::Yes => print::put_bytes(out, 0, b"yes"),
+        Asked::No => print::put_bytes(out, 0, b"no"),
+        Asked::Refused(n) => put_refused(out, 0, n),
     }
 }
 
 fn put_score(out: &mut [u8], scored: Scored) -> usize {
     match scored {
         Scored::Score(x) => {
-            let at = text::put_bytes(out, 0, b"score ");
-            text::put_hex(out, at, pattern::to_bits(x) as u64, 8)
+            let at = print::put_bytes(out, 0, b"score ");
+            print::put_hex(out, at, pattern::to_bits(x) as u64, 8)
         }
-        Scored::Refused(n) => put_refused(out, n),
+        Scored::Refused(n) => put_refused(out, 0, n),
     }
 }
 
 fn put_held(out: &mut [u8], held: Held) -> usize {
     match held {
         Held::Slot(i) => put_with(out, b"slot ", i as u64),
-        Held::None => text::put_bytes(out, 0, b"none"),
-        Held::Refused(n) => put_refused(out, n),
+        Held::None => print::put_bytes(out, 0, b"none"),
+        Held::Refused(n) => put_refused(out, 0, n),
+    }
+}
+
+// ---- results in words
+
+// Says that a place past the answer was changed. Returns where the answer begins.
+fn put_spilt(out: &mut [u8], kept: bool) -> usize {
+    if kept {
+        return 0;
+    }
+    print::put_bytes(out, 0, b"spilt ")
+}
+
+// Whether the places from n on hold their mark.
+fn numbers_kept(xs: &[u64], n: usize, mark: u64) -> bool {
+    let mut i = n;
+    while i < xs.len() {
+        if xs[i] != mark {
+            return false;
+        }
+        i += 1;
+    }
+    true
+}
+
+fn scores_kept(xs: &[f32], n: usize) -> bool {
+    let mut i = n;
+    while i < xs.len() {
+        if pattern::to_bits(xs[i]) != 0x3F80_0000 {
+            return false;
+        }
+        i += 1;
+    }
+    true
+}
+
+fn bytes_kept(xs: &[u8], n: usize) -> bool {
+    let mut i = n;
+    while i < xs.len() {
+        if xs[i] != 0xFF {
+            return false;
+        }
+        i += 1;
+    }
+    true
+}
+
+fn put_hit(out: &mut [u8], at: usize, number: u64, score: f32) -> usize {
+    let a = print::put_byte(out, at, b' ');
+    let b = print::put_hex(out, a, number, 1);
+    let c = print::put_byte(out, b, b':');
+    print::put_hex(out, c, pattern::to_bits(score) as u64, 8)
+}
+
+fn put_hits(out: &mut [u8], at: usize, numbers: &[u64], scores: &[f32], n: usize) -> usize {
+    let end = capped(n, capped(numbers.len(), scores.len()));
+    let mut next = print::put_bytes(out, at, b"list");
+    let mut i = 0;
+    while i < end {
+        next = put_hit(out, next, numbers[i], scores[i]);
+        i += 1;
+    }
+    next
+}
+
+// How many places a line of the command lends.
+fn places(c: usize, q: Request) -> usize {
+    if c == 22 {
+        return q.c as usize;
+    }
+    q.b as usize
+}
+
+// How many places an answer takes.
+fn places_taken(found: Found) -> usize {
+    match found {
+        Found::Hits(n) => n,
+        Found::Refused(_) => 0,
+    }
+}
+
+fn put_found(out: &mut [u8], found: Found, numbers: &[u64], mark: u64, scores: &[f32]) -> usize {
+    let taken = places_taken(found);
+    let at = put_spilt(
+        out,
+        numbers_kept(numbers, taken, mark) && scores_kept(scores, taken),
+    );
+    match found {
+        Found::Hits(n) => put_hits(out, at, numbers, scores, n),
+        Found::Refused(n) => put_refused(out, at, n),
+    }
+}
+
+fn put_length(out: &mut [u8], length: Written) -> usize {
+    match length {
+        Written::Bytes(n) => put_with(out, b"length ", n as u64),
+        Written::Refused(n) => put_refused(out, 0, n),
+    }
+}
+
+fn put_file(out: &mut [u8], written: Written, file: &[u8]) -> usize {
+    match written {
+        Written::Bytes(n) => {
+            let at = put_spilt(out, bytes_kept(file, n));
+            let next = print::put_bytes(out, at, b"bytes ");
+            let end = capped(n, file.len());
+            print::put_run(out, next, &file[0..end])
+        }
+        Written::Refused(n) => {
+            let at = put_spilt(out, bytes_kept(file, 0));
+            put_refused(out, at, n)
+        }
     }
 }
 
@@ -1272,7 +1752,7 @@ fn reply_set(
     }
     Replied {
         index: index,
-        length: text::put_bytes(out, 0, b"ok"),
+        length: print::put_bytes(out, 0, b"ok"),
     }
 }
 
@@ -1354,7 +1834,7 @@ fn reply_field(line: &[u8], out: &mut [u8], index: Index) -> Replied {
     }
     Replied {
         index: with_field(index, field, x.value),
-        length: text::put_bytes(out, 0, b"ok"),
+        length: print::put_bytes(out, 0, b"ok"),
     }
 }
 
@@ -1399,25 +1879,30 @@ fn dump(
 ) -> Replied {
     let n = put_record(out, index);
     flush(out, n);
-    print_arrays(
-        out,
-        codes,
-        scales,
-        keys,
-        keyed,
-        held,
-        alive,
-        codes2,
-        scales2,
-    );
+    print_slots(out, codes, scales, keys, keyed);
+    print_marks(out, held, alive, codes2, scales2);
     Replied {
         index: index,
         length: 0,
     }
 }
 
+fn print_slots(out: &mut [u8], codes: &[u8], scales: &[u32], keys: &[u64], keyed: &[bool]) {
+    print_bytes(out, b" codes ", codes);
+    print_words(out, b" scales ", scales);
+    print_keys(out, b" keys ", keys);
+    print_flags(out, b" keyed ", keyed);
+}
+
+fn print_marks(out: &mut [u8], held: &[u32], alive: &[u8], codes2: &[u8], scales2: &[u32]) {
+    print_words(out, b" held ", held);
+    print_bytes(out, b" alive ", alive);
+    print_bytes(out, b" codes2 ", codes2);
+    print_words(out, b" scales2 ", scales2);
+}
+
 fn put_record(out: &mut [u8], index: Index) -> usize {
-    let at = text::put_bytes(out, 0, b"record");
+    let at = print::put_bytes(out, 0, b"record");
     let middle = put_four(
         out,
         at,
@@ -1444,237 +1929,59 @@ fn put_four(out: &mut [u8], at: usize, a: u64, b: u64, c: u64, d: u64) -> usize 
 }
 
 fn put_field(out: &mut [u8], at: usize, x: u64) -> usize {
-    let next = text::put_byte(out, at, b' ');
-    text::put_hex(out, next, x, 1)
+    let next = print::put_byte(out, at, b' ');
+    print::put_hex(out, next, x, 1)
 }
 
-fn print_arrays(
-    out: &mut [u8],
-    codes: &[u8],
-    scales: &[u32],
-    keys: &[u64],
-    keyed: &[bool],
-    held: &[u32],
-    alive: &[u8],
-    codes2: &[u8],
-    scales2: &[u32],
-) {
-    print_first(
-        out,
-        codes,
-        scales,
-        keys,
-        keyed,
-        held,
-        alive,
-        codes2,
-        scales2,
-    );
-    print_last(
-        out,
-        codes,
-        scales,
-        keys,
-        keyed,
-        held,
-        alive,
-        codes2,
-        scales2,
-    );
-}
-
-fn print_first(
-    out: &mut [u8],
-    codes: &[u8],
-    scales: &[u32],
-    keys: &[u64],
-    keyed: &[bool],
-    held: &[u32],
-    alive: &[u8],
-    codes2: &[u8],
-    scales2: &[u32],
-) {
-    print_array(
-        out,
-        0,
-        b" codes ",
-        codes.len(),
-        2,
-        codes,
-        scales,
-        keys,
-        keyed,
-        held,
-        alive,
-        codes2,
-        scales2,
-    );
-    print_array(
-        out,
-        1,
-        b" scales ",
-        scales.len(),
-        8,
-        codes,
-        scales,
-        keys,
-        keyed,
-        held,
-        alive,
-        codes2,
-        scales2,
-    );
-    print_array(
-        out,
-        2,
-        b" keys ",
-        keys.len(),
-        16,
-        codes,
-        scales,
-        keys,
-        keyed,
-        held,
-        alive,
-        codes2,
-        scales2,
-    );
-    print_array(
-        out,
-        3,
-        b" keyed ",
-        keyed.len(),
-        1,
-        codes,
-        scales,
-        keys,
-        keyed,
-        held,
-        alive,
-        codes2,
-        scales2,
-    );
-}
-
-fn print_last(
-    out: &mut [u8],
-    codes: &[u8],
-    scales: &[u32],
-    keys: &[u64],
-    keyed: &[bool],
-    held: &[u32],
-    alive: &[u8],
-    codes2: &[u8],
-    scales2: &[u32],
-) {
-    print_array(
-        out,
-        4,
-        b" held ",
-        held.len(),
-        8,
-        codes,
-        scales,
-        keys,
-        keyed,
-        held,
-        alive,
-        codes2,
-        scales2,
-    );
-    print_array(
-        out,
-        5,
-        b" alive ",
-        alive.len(),
-        2,
-        codes,
-        scales,
-        keys,
-        keyed,
-        held,
-        alive,
-        codes2,
-        scales2,
-    );
-    print_array(
-        out,
-        6,
-        b" codes2 ",
-        codes2.len(),
-        2,
-        codes,
-        scales,
-        keys,
-        keyed,
-        held,
-        alive,
-        codes2,
-        scales2,
-    );
-    print_array(
-        out,
-        7,
-        b" scales2 ",
-        scales2.len(),
-        8,
-        codes,
-        scales,
-        keys,
-        keyed,
-        held,
-        alive,
-        codes2,
-        scales2,
-    );
-}
-
-// The name of an array and its n elements, of width digits each; `-` where there is none.
-fn print_array(
-    out: &mut [u8],
-    array: usize,
-    name: &[u8],
-    n: usize,
-    width: usize,
-    codes: &[u8],
-    scales: &[u32],
-    keys: &[u64],
-    keyed: &[bool],
-    held: &[u32],
-    alive: &[u8],
-    codes2: &[u8],
-    scales2: &[u32],
-) {
-    let mut at = put_name(out, name, n);
+// The name of an array and its elements, so many digits each; `-` where there is none.
+fn print_bytes(out: &mut [u8], name: &[u8], xs: &[u8]) {
+    let mut at = put_name(out, name, xs.len());
     let mut i = 0;
-    while i < n {
+    while i < xs.len() {
         let next = make_room(out, at);
-        at = text::put_hex(
-            out,
-            next,
-            element(
-                array,
-                i,
-                codes,
-                scales,
-                keys,
-                keyed,
-                held,
-                alive,
-                codes2,
-                scales2,
-            ),
-            width,
-        );
+        at = print::put_hex(out, next, wide_byte(xs[i]), 2);
+        i += 1;
+    }
+    flush(out, at);
+}
+
+fn print_words(out: &mut [u8], name: &[u8], xs: &[u32]) {
+    let mut at = put_name(out, name, xs.len());
+    let mut i = 0;
+    while i < xs.len() {
+        let next = make_room(out, at);
+        at = print::put_hex(out, next, wide(xs[i]), 8);
+        i += 1;
+    }
+    flush(out, at);
+}
+
+fn print_keys(out: &mut [u8], name: &[u8], xs: &[u64]) {
+    let mut at = put_name(out, name, xs.len());
+    let mut i = 0;
+    while i < xs.len() {
+        let next = make_room(out, at);
+        at = print::put_hex(out, next, xs[i], 16);
+        i += 1;
+    }
+    flush(out, at);
+}
+
+fn print_flags(out: &mut [u8], name: &[u8], xs: &[bool]) {
+    let mut at = put_name(out, name, xs.len());
+    let mut i = 0;
+    while i < xs.len() {
+        let next = make_room(out, at);
+        at = print::put_hex(out, next, xs[i] as u64, 1);
         i += 1;
     }
     flush(out, at);
 }
 
 fn put_name(out: &mut [u8], name: &[u8], n: usize) -> usize {
-    let at = text::put_bytes(out, 0, name);
+    let at = print::put_bytes(out, 0, name);
     if n == 0 {
-        return text::put_byte(out, at, b'-');
+        return print::put_byte(out, at, b'-');
     }
     at
 }
@@ -1691,57 +1998,5 @@ fn make_room(out: &[u8], at: usize) -> usize {
         return at;
     }
     flush(out, at);
-    0
-}
-
-fn element(
-    array: usize,
-    i: usize,
-    codes: &[u8],
-    scales: &[u32],
-    keys: &[u64],
-    keyed: &[bool],
-    held: &[u32],
-    alive: &[u8],
-    codes2: &[u8],
-    scales2: &[u32],
-) -> u64 {
-    match array {
-        0 => byte_at(codes, i),
-        1 => word_at(scales, i),
-        2 => key_at(keys, i),
-        3 => flag_at(keyed, i),
-        4 => word_at(held, i),
-        5 => byte_at(alive, i),
-        6 => byte_at(codes2, i),
-        _ => word_at(scales2, i),
-    }
-}
-
-fn byte_at(xs: &[u8], i: usize) -> u64 {
-    if i < xs.len() {
-        return xs[i] as u64;
-    }
-    0
-}
-
-fn word_at(xs: &[u32], i: usize) -> u64 {
-    if i < xs.len() {
-        return xs[i] as u64;
-    }
-    0
-}
-
-fn key_at(xs: &[u64], i: usize) -> u64 {
-    if i < xs.len() {
-        return xs[i];
-    }
-    0
-}
-
-fn flag_at(xs: &[bool], i: usize) -> u64 {
-    if i < xs.len() {
-        return xs[i] as u64;
-    }
     0
 }

@@ -1,0 +1,2 @@
+-- Laws of the head.
+mod Numbers

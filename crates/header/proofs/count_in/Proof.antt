@@ -1,0 +1,18 @@
+-- `header::count_in` meets its contract.
+use mathlib.Core.Path.{ap, _∙_}
+use Rattle.index.specs.Read.{littleEndian}
+use borrow.Author.Needs.{needs}
+use Rattle.header.proofs.count_in.Statement.{statement}
+use Rattle.header.proofs.count_in.Tie as tie
+
+after-requires : tie.Need-after-requires
+after-requires c κs = search needs
+
+rd-u32-requires : tie.Need-rd-u32-requires
+rd-u32-requires c κs = search needs
+
+returns : tie.Need-returns
+returns c = c .rd-u32 .ensures ∙ ap (littleEndian 4) (c .before .after .ensures)
+
+pub count-in-spec : {M : Type 1} → statement M
+count-in-spec = tie.close (tie.spec after-requires rd-u32-requires returns)

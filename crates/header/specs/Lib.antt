@@ -1,0 +1,2 @@
+-- Names for parts of the head's tests.
+pub mod Head

@@ -1,0 +1,200 @@
+// The head of a file: little-endian numbers, its fields, and the tests of the first 24 or 25 bytes.
+ghost use mathlib.Core.Path.{_≡_};
+ghost use Prim.Native.Nat.{_^_, _≤_, _<_};
+ghost use lib.ListN.{getD, drop};
+ghost use Rattle.index.specs.Read.{known, hasWidth, littleEndian, versionIn, dimIn, countIn, workingField, headerIn, stagesIn, headFault, overLimits};
+ghost use Rattle.header.specs.Head.{widthOf, headLength};
+use encode::Header;
+
+// ---- bytes
+
+// The bytes from `at` on; none past the end.
+pub fn after(bytes: &[u8], at: usize) -> &[u8]
+    ensures { λ r. ⌜ now r ≡ drop at (now (bytes .entry)) ⌝ }
+{
+    if bytes.len() < at {
+        return &bytes[0..0];
+    }
+    &bytes[at..]
+}
+
+// A byte; 0 past the end.
+fn byte_at(bytes: &[u8], i: usize) -> u64
+    ensures { λ r. ⌜ r ≡ getD (now (bytes .entry)) i 0 ⌝ }
+{
+    if i < bytes.len() {
+        return bytes[i] as u64;
+    }
+    0
+}
+
+// The number that the first n bytes make, the lowest first.
+fn little_endian(bytes: &[u8], n: usize) -> u64
+    requires { ⌜ n ≤ 8 ⌝ }
+    ensures { λ r. ⌜ (r ≡ littleEndian n (now (bytes .entry))) × (r < 256 ^ n) ⌝ }
+{
+    let mut value: u64 = 0;
+    let mut i = n;
+    while 0 < i {
+        i -= 1;
+        value = value * 256 + byte_at(bytes, i);
+    }
+    value
+}
+
+pub fn rd_u16(bytes: &[u8]) -> u16
+    ensures { λ r. ⌜ r ≡ littleEndian 2 (now (bytes .entry)) ⌝ }
+{
+    little_endian(bytes, 2) as u16
+}
+
+pub fn rd_u32(bytes: &[u8]) -> u32
+    ensures { λ r. ⌜ r ≡ littleEndian 4 (now (bytes .entry)) ⌝ }
+{
+    little_endian(bytes, 4) as u32
+}
+
+pub fn rd_u64(bytes: &[u8]) -> u64
+    ensures { λ r. ⌜ r ≡ littleEndian 8 (now (bytes .entry)) ⌝ }
+{
+    little_endian(bytes, 8)
+}
+
+// ---- fields
+
+pub fn version_in(file: &[u8]) -> u16
+    ensures { λ r. ⌜ r ≡ versionIn (now (file .entry)) ⌝ }
+{
+    rd_u16(after(file, 4))
+}
+
+// How many slots the file has.
+pub fn count_in(file: &[u8]) -> u32
+    ensures { λ r. ⌜ r ≡ countIn (now (file .entry)) ⌝ }
+{
+    rd_u32(after(file, 20))
+}
+
+fn dim_in(file: &[u8]) -> u32
+    ensures { λ r. ⌜ r ≡ dimIn (now (file .entry)) ⌝ }
+{
+    rd_u32(after(file, 8))
+}
+
+// The field of working_dim; 0 where the version ignores it.
+fn working_field(file: &[u8]) -> u32
+    ensures { λ r. ⌜ r ≡ workingField (now (file .entry)) ⌝ }
+{
+    if version_in(file) < 258 {
+        return 0;
+    }
+    rd_u16(after(file, 6)) as u32
+}
+
+fn working_in(file: &[u8]) -> u32
+    ensures { λ r. ⌜ r ≡ headerIn (now (file .entry)) .working ⌝ }
+{
+    let working = working_field(file);
+    if working == 0 {
+        return dim_in(file);
+    }
+    working
+}
+
+fn width_in(file: &[u8]) -> u8
+    ensures { λ r. ⌜ r ≡ headerIn (now (file .entry)) .width ⌝ }
+{
+    if version_in(file) == 261 {
+        return little_endian(after(file, 24), 1) as u8;
+    }
+    4
+}
+
+// The header that the file states.
+pub fn header_in(file: &[u8]) -> Header
+    ensures { λ r. ⌜ r ≡ headerIn (now (file .entry)) ⌝ }
+{
+    Header {
+        dim: dim_in(file) as usize,
+        working: working_in(file) as usize,
+        seed: rd_u64(after(file, 12)),
+        width: width_in(file),
+        residual: version_in(file) == 260,
+    }
+}
+
+// How long the head is: one byte more with a width byte.
+fn head_length(version: u16) -> usize
+    ensures { λ r. ⌜ r ≡ headLength version ⌝ }
+{
+    if version == 261 {
+        return 25;
+    }
+    24
+}
+
+// What follows the head.
+pub fn stages_in(file: &[u8]) -> &[u8]
+    ensures { λ r. ⌜ now r ≡ stagesIn (now (file .entry)) ⌝ }
+{
+    after(file, head_length(version_in(file)))
+}
+
+// ---- tests
+
+fn is_known(version: u16) -> bool
+    ensures { λ r. ⌜ r ≡ known version ⌝ }
+{
+    if version == 1 {
+        return true;
+    }
+    if version < 257 {
+        return false;
+    }
+    version <= 261
+}
+
+fn is_width(width: u8) -> bool
+    ensures { λ r. ⌜ r ≡ widthOf width ⌝ }
+{
+    if width < 4 {
+        return false;
+    }
+    width <= 6
+}
+
+// The refusal that the head gives, 14 to 18; 0 for none.
+pub fn head_fault(file: &[u8]) -> u8
+    ensures { λ r. ⌜ r ≡ headFault (now (file .entry)) ⌝ }
+{
+    if file.len() < 24 {
+        return 14;
+    }
+    if rd_u32(file) != 0x5143_4556 {
+        return 15;
+    }
+    let version = version_in(file);
+    if !is_known(version) {
+        return 16;
+    }
+    if dim_in(file) < working_field(file) {
+        return 17;
+    }
+    if file.len() < head_length(version) {
+        return 14;
+    }
+    if is_width(width_in(file)) {
+        return 0;
+    }
+    18
+}
+
+// Refusal 20 for dim and count alone.
+pub fn over_limits(file: &[u8]) -> bool
+    ensures { λ r. ⌜ r ≡ overLimits (now (file .entry)) ⌝ }
+{
+    if 4096 < dim_in(file) {
+        return true;
+    }
+    65536 < count_in(file)
+}

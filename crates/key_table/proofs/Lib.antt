@@ -1,0 +1,3 @@
+-- Laws of the key table.
+mod Once
+pub mod Keys

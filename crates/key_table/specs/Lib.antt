@@ -1,0 +1,2 @@
+-- What the entries of a key table give.
+pub mod Table

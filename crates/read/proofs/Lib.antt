@@ -1,0 +1,6 @@
+-- Laws of reading.
+mod Limits
+mod Faults
+mod Stages
+mod Filled
+mod Call

@@ -1,0 +1,2 @@
+-- What reading takes from a file before it writes.
+pub mod Parts

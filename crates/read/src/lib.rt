@@ -1,0 +1,372 @@
+// Reading: an index from the bytes of a file. All tests come first; then each block is written over the first places of its arrays.
+ghost use mathlib.Core.Path.{_≡_};
+ghost use mathlib.Core.Bool.{false, cond};
+ghost use Prim.Native.Nat.{_+_, _*_, _≤_};
+ghost use lib.ListN.{length, take, drop};
+ghost use Rattle.lists.specs.Lists.{tab, over};
+ghost use Rattle.codes.specs.Writing.{atWidth};
+ghost use Rattle.encode.specs.Header.{blockSize};
+ghost use Rattle.index.specs.Arrays.{lent};
+ghost use Rattle.index.specs.State.{recordOf, scalesOf, blocksOf};
+ghost use Rattle.index.specs.Read.{scaleSize, hasSecond, hasKeys, littleEndian, headFault, overLimits, scaleFrom, stageLength, stageFrom, secondIn, tableIn, entryCount, stateIn, readRefusal, readInto};
+ghost use Rattle.held_order.specs.Restored.{risingPosition};
+ghost use Rattle.key_table.specs.Table.{wordFrom, onFrom};
+ghost use Rattle.read.specs.Parts.{sizesOf, restShort, keysSound, bodyFault, handed};
+use encode::Header;
+use index::Index;
+use index::Made;
+
+// ---- sizes
+
+// What a file has: its version, bytes of a block, slots, and how long its stages are.
+pub struct Sizes {
+    pub version: u16,
+    pub block: usize,
+    pub n: usize,
+    pub first: usize,
+    pub second: usize,
+}
+
+// How many bytes a slot has of each stage.
+fn block_size(header: Header) -> usize
+    ensures { λ r. ⌜ r ≡ atWidth (header .width) (blockSize header) ⌝ }
+{
+    codes::bytes_per_vector(rhdh::padded_dim(header.working), header.width)
+}
+
+// How many bytes a scale has.
+fn scale_size(version: u16) -> usize
+    ensures { λ r. ⌜ r ≡ scaleSize version ⌝ }
+{
+    if version == 1 {
+        return 4;
+    }
+    2
+}
+
+fn stage_length(version: u16, block: usize, n: usize) -> usize
+    requires { ⌜ (block ≤ 4096) × (n ≤ 65536) ⌝ }
+    ensures { λ r. ⌜ r ≡ stageLength version block n ⌝ }
+{
+    n * scale_size(version) + n * block
+}
+
+// Of a second stage, which only a residual file has: so many, or none.
+fn if_second(version: u16, many: usize) -> usize
+    ensures { λ r. ⌜ r ≡ cond (hasSecond version) many 0 ⌝ }
+{
+    if version == 260 {
+        return many;
+    }
+    0
+}
+
+fn sizes_in(file: &[u8]) -> Sizes
+    requires { ⌜ (headFault (now file) ≡ 0) × (overLimits (now file) ≡ false) ⌝ }
+    ensures { λ r. ⌜ r ≡ sizesOf (now (file .entry)) ⌝ }
+{
+    let version = header::version_in(file);
+    let block = block_size(header::header_in(file));
+    let n = header::count_in(file) as usize;
+    let first = stage_length(version, block, n);
+    Sizes {
+        version: version,
+        block: block,
+        n: n,
+        first: first,
+        second: if_second(version, first),
+    }
+}
+
+// ---- parts
+
+// What follows the first stage.
+fn second_in(file: &[u8], sizes: Sizes) -> &[u8]
+    requires { ⌜ sizes ≡ sizesOf (now file) ⌝ }
+    ensures { λ r. ⌜ now r ≡ secondIn (now (file .entry)) ⌝ }
+{
+    let first = sizes.first;
+    header::after(header::stages_in(file), first)
+}
+
+// What follows both stages.
+fn table_in(file: &[u8], sizes: Sizes) -> &[u8]
+    requires { ⌜ sizes ≡ sizesOf (now file) ⌝ }
+    ensures { λ r. ⌜ now r ≡ tableIn (now (file .entry)) ⌝ }
+{
+    let second = sizes.second;
+    header::after(second_in(file, sizes), second)
+}
+
+// How many key entries there are.
+fn entry_count(file: &[u8], sizes: Sizes) -> u32
+    requires { ⌜ sizes ≡ sizesOf (now file) ⌝ }
+    ensures { λ r. ⌜ r ≡ entryCount (now (file .entry)) ⌝ }
+{
+    if sizes.version < 259 {
+        return 0;
+    }
+    header::rd_u32(table_in(file, sizes))
+}
+
+fn table_length(version: u16, entries: u32) -> usize
+    ensures { λ r. ⌜ r ≡ cond (hasKeys version) (4 + entries * 12) 0 ⌝ }
+{
+    if version < 259 {
+        return 0;
+    }
+    4 + entries as usize * 12
+}
+
+// ---- tests
+
+// Whether the file ends before its second stage does, or its key table.
+fn rest_short(file: &[u8], sizes: Sizes) -> bool
+    requires { ⌜ sizes ≡ sizesOf (now file) ⌝ }
+    ensures { λ r. ⌜ r ≡ restShort (now (file .entry)) ⌝ }
+{
+    if second_in(file, sizes).len() < sizes.second {
+        return true;
+    }
+    table_in(file, sizes).len() < table_length(sizes.version, entry_count(file, sizes))
+}
+
+fn keys_sound(file: &[u8], sizes: Sizes) -> bool
+    requires { ⌜ (sizes ≡ sizesOf (now file)) × (overLimits (now file) ≡ false) ⌝ }
+    ensures { λ r. ⌜ r ≡ keysSound (now (file .entry)) ⌝ }
+{
+    let n = sizes.n;
+    key_table::well_keyed(table_in(file, sizes), entry_count(file, sizes), n)
+}
+
+// The refusal that what follows the head gives; 0 for none.
+fn body_fault(file: &[u8]) -> u8
+    requires { ⌜ (headFault (now file) ≡ 0) × (overLimits (now file) ≡ false) ⌝ }
+    ensures { λ r. ⌜ r ≡ bodyFault (now (file .entry)) ⌝ }
+{
+    let sizes = sizes_in(file);
+    if header::stages_in(file).len() < sizes.first {
+        return 14;
+    }
+    if header::header_in(file).dim == 0 {
+        return 17;
+    }
+    if rest_short(file, sizes) {
+        return 14;
+    }
+    if keys_sound(file, sizes) {
+        return 0;
+    }
+    19
+}
+
+// The record of the index that the file holds: all its slots are live.
+fn index_in(file: &[u8]) -> Index
+    ensures { λ r. ⌜ r ≡ recordOf (stateIn (now (file .entry))) ⌝ }
+{
+    let header = header::header_in(file);
+    let n = header::count_in(file) as usize;
+    Index {
+        dim: header.dim,
+        working_dim: header.working,
+        seed: header.seed,
+        bits: header.width,
+        residual: header.residual,
+        n: n,
+        live: n,
+        cascade: false,
+    }
+}
+
+// The refusal of the file into these arrays; 0 for none.
+fn read_fault(
+    codes: &[u8],
+    scales: &[u32],
+    keys: &[u64],
+    keyed: &[bool],
+    held: &[u32],
+    alive: &[u8],
+    codes2: &[u8],
+    scales2: &[u32],
+    file: &[u8],
+) -> u8
+    ensures { λ r. ⌜ r ≡ readRefusal (now (file .entry)) (lent (codes .entry) (scales .entry) (keys .entry) (keyed .entry) (held .entry) (alive .entry) (codes2 .entry) (scales2 .entry)) ⌝ }
+{
+    let head = header::head_fault(file);
+    if head != 0 {
+        return head;
+    }
+    if header::over_limits(file) {
+        return 20;
+    }
+    let index = index_in(file);
+    let room = fit::capacity(
+        index,
+        codes,
+        scales,
+        keys,
+        keyed,
+        held,
+        alive,
+        codes2,
+        scales2,
+    );
+    if room < index.n {
+        return 20;
+    }
+    body_fault(file)
+}
+
+// ---- stages
+
+// The scale that the bytes begin with, as a binary32 pattern.
+fn scale_from(version: u16, bytes: &[u8]) -> u32
+    ensures { λ r. ⌜ r ≡ scaleFrom version (littleEndian (scaleSize version) (now (bytes .entry))) ⌝ }
+{
+    if version == 1 {
+        return header::rd_u32(bytes);
+    }
+    half::f16_bits_to_f32(header::rd_u16(bytes))
+}
+
+fn read_scales(scales: &mut [u32], bytes: &[u8], version: u16, n: usize)
+    requires { ⌜ (n ≤ length (now scales)) × (n ≤ 65536) ⌝ }
+    ensures { λ _. ⌜ now (scales .exit) ≡ over (tab (λ i. scaleFrom version (littleEndian (scaleSize version) (drop (i * scaleSize version) (now (bytes .entry))))) n) (now (scales .entry)) ⌝ }
+{
+    let size = scale_size(version);
+    let mut i: usize = 0;
+    while i < n {
+        scales[i] = scale_from(version, header::after(bytes, i * size));
+        i += 1;
+    }
+}
+
+// Copies the first `many` bytes.
+fn read_codes(codes: &mut [u8], bytes: &[u8], many: usize)
+    requires { ⌜ (many ≤ length (now codes)) × (many ≤ length (now bytes)) ⌝ }
+    ensures { λ _. ⌜ now (codes .exit) ≡ over (take many (now (bytes .entry))) (now (codes .entry)) ⌝ }
+{
+    let mut i: usize = 0;
+    while i < many {
+        codes[i] = bytes[i];
+        i += 1;
+    }
+}
+
+// The scales and the blocks of one stage, from bytes that begin with the scales.
+fn read_stage(
+    codes: &mut [u8],
+    scales: &mut [u32],
+    bytes: &[u8],
+    version: u16,
+    block: usize,
+    n: usize,
+)
+    requires { ⌜ (n ≤ 65536) × (block ≤ 4096) × (n * block ≤ length (now codes)) × (n ≤ length (now scales)) × (stageLength version block n ≤ length (now bytes)) ⌝ }
+    ensures { λ _. ⌜ now (codes .exit) ≡ over (blocksOf (tab (stageFrom version block n (now (bytes .entry))) n)) (now (codes .entry)) ⌝ }
+    ensures { λ _. ⌜ now (scales .exit) ≡ over (scalesOf (tab (stageFrom version block n (now (bytes .entry))) n)) (now (scales .entry)) ⌝ }
+{
+    read_scales(scales, bytes, version, n);
+    read_codes(
+        codes,
+        header::after(bytes, n * scale_size(version)),
+        n * block,
+    );
+}
+
+// ---- keys and marks
+
+// Marks the first n slots as live.
+fn mark_live(alive: &mut [u8], n: usize)
+    requires { ⌜ n ≤ length (now alive) ⌝ }
+    ensures { λ _. ⌜ now (alive .exit) ≡ over (tab (λ _. 1) n) (now (alive .entry)) ⌝ }
+{
+    let mut i = 0;
+    while i < n {
+        fit::set_live_mark(alive, i, true);
+        i += 1;
+    }
+}
+
+// The keys of the table, in rising held order, on n live slots.
+fn read_marks(
+    keys: &mut [u64],
+    keyed: &mut [bool],
+    held: &mut [u32],
+    alive: &mut [u8],
+    table: &[u8],
+    entries: u32,
+    n: usize,
+)
+    requires { ⌜ (n ≤ 65536) × (n ≤ length (now keys)) × (n ≤ length (now keyed)) × (n ≤ length (now held)) × (n ≤ length (now alive)) ⌝ }
+    ensures { λ _. ⌜ now (keys .exit) ≡ over (tab (wordFrom (now (table .entry)) entries) n) (now (keys .entry)) ⌝ }
+    ensures { λ _. ⌜ now (keyed .exit) ≡ over (tab (onFrom (now (table .entry)) entries) n) (now (keyed .entry)) ⌝ }
+    ensures { λ _. ⌜ now (held .exit) ≡ over (tab (risingPosition (now (keys .exit)) (now (keyed .exit))) n) (now (held .entry)) ⌝ }
+    ensures { λ _. ⌜ now (alive .exit) ≡ over (tab (λ _. 1) n) (now (alive .entry)) ⌝ }
+{
+    key_table::set_keys(keys, keyed, table, entries, n);
+    held_order::restore_order(keys, keyed, held, n);
+    mark_live(alive, n);
+}
+
+// ---- the call
+
+// The index that a file holds, into lent arrays. Refusals: 14 to 20.
+pub fn from_bytes(
+    codes: &mut [u8],
+    scales: &mut [u32],
+    keys: &mut [u64],
+    keyed: &mut [bool],
+    held: &mut [u32],
+    alive: &mut [u8],
+    codes2: &mut [u8],
+    scales2: &mut [u32],
+    file: &[u8],
+) -> Made
+    ensures { λ r. ⌜
+        handed r (lent (codes .exit) (scales .exit) (keys .exit) (keyed .exit) (held .exit) (alive .exit) (codes2 .exit) (scales2 .exit))
+        ≡ readInto (lent (codes .entry) (scales .entry) (keys .entry) (keyed .entry) (held .entry) (alive .entry) (codes2 .entry) (scales2 .entry)) (now (file .entry)) ⌝ }
+{
+    let fault = read_fault(
+        codes,
+        scales,
+        keys,
+        keyed,
+        held,
+        alive,
+        codes2,
+        scales2,
+        file,
+    );
+    if fault == 0 {
+        let sizes = sizes_in(file);
+        let n = sizes.n;
+        read_stage(
+            codes,
+            scales,
+            header::stages_in(file),
+            sizes.version,
+            sizes.block,
+            n,
+        );
+        read_marks(
+            keys,
+            keyed,
+            held,
+            alive,
+            table_in(file, sizes),
+            entry_count(file, sizes),
+            n,
+        );
+        read_stage(
+            codes2,
+            scales2,
+            second_in(file, sizes),
+            sizes.version,
+            sizes.block,
+            if_second(sizes.version, n),
+        );
+        return Made::Index(index_in(file));
+    }
+    Made::Refused(fault)
+}
