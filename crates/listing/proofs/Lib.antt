@@ -1,0 +1,2 @@
+-- That the part of a long file which the program reads is enough.
+pub mod Cut

@@ -1,0 +1,71 @@
+use mathlib.Core.Path.{sym, ap, _∙_}
+use Prim.Native.Nat.{_*_}
+use borrow.Author.Needs.{needs}
+use borrow.Author.Tests.{eq-eqb, ne-eqb}
+use lib.ListN.{drop}
+use Rattle.half.specs.Half.{narrowed}
+use Rattle.index.specs.Read.{littleEndian, versionIn}
+use Rattle.listing.specs.Listing.{halfIn}
+use Rattle.listing.proofs.half_of.Statement.{statement}
+use Rattle.listing.proofs.half_of.Tie as tie
+
+stages-in-requires : tie.Need-stages-in-requires
+stages-in-requires c κs = search needs
+
+version-in-requires : tie.Need-version-in-requires
+version-in-requires c κs = search needs
+
+mul-after : tie.Need-mul-after
+mul-after c = search needs
+
+after-requires : tie.Need-after-requires
+after-requires c κs = search needs
+
+rd-u32-requires : tie.Need-rd-u32-requires
+rd-u32-requires c κs = search needs
+
+f32-to-f16-bits-requires : tie.Need-f32-to-f16-bits-requires
+f32-to-f16-bits-requires c κs = search needs
+
+returns : tie.Need-returns
+unfolding halfIn
+returns c =
+    let args = c .before .before .before .before .before .before .before .args in
+    let file = args .file .now in
+    let part = c .before .before .after .ensures ∙ ap (drop (args .slot * 4)) (c .before .before .before .before .before .stages-in .ensures) in
+    rw (eq-eqb (versionIn file) 1 (sym (c .before .before .before .before .version-in .ensures) ∙ c .before .before .before .if1 .taken))
+    (c .f32-to-f16-bits .ensures .equals ∙ ap narrowed (c .before .rd-u32 .ensures ∙ ap (littleEndian 4) part))
+
+mul-after-2 : tie.Need-mul-after-2
+mul-after-2 c = search needs
+
+after-requires-2 : tie.Need-after-requires-2
+after-requires-2 c κs = search needs
+
+rd-u16-requires : tie.Need-rd-u16-requires
+rd-u16-requires c κs = search needs
+
+returns-2 : tie.Need-returns-2
+unfolding halfIn
+returns-2 c =
+    let args = c .before .before .before .before .before .before .args in
+    let file = args .file .now in
+    let part = c .before .after2 .ensures ∙ ap (drop (args .slot * 2)) (c .before .before .before .before .stages-in .ensures) in
+    rw (ne-eqb (versionIn file) 1 (λ e. c .before .before .if1 .left (c .before .before .before .version-in .ensures ∙ e)))
+    (c .rd-u16 .ensures ∙ ap (littleEndian 2) part)
+
+pub half-of-spec : {M : Type 1} → statement M
+half-of-spec =
+    tie.close
+    (tie.spec
+    stages-in-requires
+    version-in-requires
+    mul-after
+    after-requires
+    rd-u32-requires
+    f32-to-f16-bits-requires
+    returns
+    mul-after-2
+    after-requires-2
+    rd-u16-requires
+    returns-2)

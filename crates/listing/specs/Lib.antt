@@ -1,0 +1,2 @@
+-- What the listing prints.
+pub mod Listing
