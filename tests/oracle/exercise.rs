@@ -482,8 +482,10 @@ fn scores(f: &mut Fixed) {
     for dim in 1..=17 {
         f.lend(3, block_size(dim, 6));
         for width in [4, 5, 6] {
-            // 10, document 01's example: dim 1 at 4 bits.
             let tiny = (dim == 1 && width == 4).then_some("refused 10");
+            if tiny.is_some() {
+                f.label("10, document 01's example: dim 1, at 4 bits");
+            }
             scored(f, dim, &format!("new {dim:x} {:x}", 17 * dim), width, tiny);
         }
         scored(f, dim, &format!("residual {dim:x} {:x}", 19 * dim), 4, (dim == 1).then_some("refused 10"));
@@ -492,7 +494,7 @@ fn scores(f: &mut Fixed) {
     let w = nth(4, 1);
     f.lend(3, 4);
     f.ask("new 4 1");
-    f.label("9: slot 3 of 3, and slots past that");
+    f.label("9, document 01's example: slot 3 of 3; and slots past that");
     for number in 1..=3 {
         f.ask(format!("add {}", nth(4, number)));
     }
@@ -505,7 +507,7 @@ fn scores(f: &mut Fixed) {
         f.told(format!("score {slot} {}", v(&[f32::NAN, 0.0, 0.0, 0.0])), "refused 2");
         f.told(format!("score {slot} {}", v(&[1.0e30, 0.0, 0.0, 0.0])), "refused 3");
     }
-    f.label("12: the scale a NaN; other scales are scored");
+    f.label("12, document 01's example: the scale a NaN; other scales are scored");
     for scale in ["7fc00000", "ff800001"] {
         f.ask(format!("set scales 0 {scale}"));
         f.told(format!("score 0 {w}"), "refused 12");
