@@ -1,5 +1,5 @@
 -- Laws of compaction.
 mod Gathering
-mod Rising
+pub mod Rising
 mod Kept
 mod Arrays

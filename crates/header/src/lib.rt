@@ -2,7 +2,7 @@
 ghost use mathlib.Core.Path.{_≡_};
 ghost use Prim.Native.Nat.{_^_, _≤_, _<_};
 ghost use lib.ListN.{getD, drop};
-ghost use Rattle.index.specs.Read.{known, hasWidth, littleEndian, versionIn, dimIn, countIn, workingField, headerIn, stagesIn, headFault, overLimits};
+ghost use Rattle.index.specs.Read.{known, littleEndian, versionIn, dimIn, countIn, workingField, headerIn, stagesIn, headFault, overLimits};
 ghost use Rattle.header.specs.Head.{widthOf, headLength};
 use encode::Header;
 

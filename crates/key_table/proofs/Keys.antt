@@ -22,7 +22,6 @@ use Rattle.index.specs.State.{hasKey, keyWord}
 use Rattle.index.proofs.Fits.{all-each}
 use Rattle.index.proofs.Marks.{and-right}
 use Rattle.key_table.specs.Table.{slotsFrom, keyBy, wordFrom, onFrom}
-use Rattle.key_table.proofs.Once.{count-grows}
 
 -- ---- no slot twice: the last entry of a slot is the first
 

@@ -1,8 +1,8 @@
 -- What the program needs and has done once no test refuses.
-use mathlib.Core.Path.{_≡_, refl, sym, ap, ap₂, _∙_}
+use mathlib.Core.Path.{_≡_, refl, ap₂, _∙_}
 use mathlib.Core.Bool.{Bool, true, false, cond}
 use mathlib.Core.List.{List}
-use Prim.Native.Nat.{ℕ, _+_, _*_, _≤_}
+use Prim.Native.Nat.{ℕ, _*_, _≤_}
 use native.Mathlib.Nat.{zero-mul}
 use native.Mathlib.Omega.{arith}
 use lib.ListN.{length}
@@ -12,7 +12,7 @@ use Rattle.index.specs.declared.Index.{Index}
 use Rattle.index.specs.declared.Made.the-variants as Made
 use Rattle.index.specs.Arrays.{Arrays}
 use Rattle.index.specs.State.{recordOf, scalesOf, blocksOf}
-use Rattle.index.specs.Read.{scaleSize, hasSecond, versionIn, countIn, headerIn, headFault, overLimits, stageLength, stageFrom, firstLength, stagesIn, secondIn, tableIn, entryCount, stateIn, readRefusal, readInto}
+use Rattle.index.specs.Read.{scaleSize, hasSecond, versionIn, countIn, headerIn, stageLength, stageFrom, firstLength, stagesIn, secondIn, tableIn, entryCount, stateIn, readRefusal, readInto}
 use Rattle.index.proofs.Overlay.{Roomy, roomy}
 use Rattle.index.proofs.Read.{Accepted, accepted}
 use Rattle.held_order.specs.Restored.{risingPosition}

@@ -1,9 +1,9 @@
 -- The arrays that the program leaves are the index's overlay of the slots read.
-use mathlib.Core.Path.{_≡_, refl, sym, ap, ap₂, _∙_}
+use mathlib.Core.Path.{_≡_, refl, sym, ap, _∙_}
 use mathlib.Core.Bool.{Bool, true, false, cond}
-use mathlib.Core.List.{List, [], map}
+use mathlib.Core.List.{List, map}
 use mathlib.Core.Option.{Option, none, some}
-use Prim.Native.Nat.{ℕ, _*_, _≤_, _<_}
+use Prim.Native.Nat.{ℕ, _<_}
 use native.Mathlib.Omega.{arith}
 use lib.ListN.{length, getD}
 use Rattle.lists.specs.Lists.{tab, over}
@@ -16,8 +16,8 @@ use Rattle.encode.specs.declared.Header.{Header}
 use Rattle.encode.specs.Header.{blockSize}
 use Rattle.index.specs.declared.Index.{Index}
 use Rattle.index.specs.Arrays.{Arrays}
-use Rattle.index.specs.State.{Mark, keyed, Slot, live, recordOf, aliveOf, hasKey, keyWord, position, joined, seconds, scalesOf, blocksOf, overlay}
-use Rattle.index.specs.Read.{hasSecond, versionIn, countIn, headerIn, stageFrom, keyFrom, markFrom, firstLength, stagesIn, secondIn, tableIn, entryCount, entriesIn, slotIn, slotsIn, stateIn, entryFrom}
+use Rattle.index.specs.State.{Mark, keyed, Slot, live, recordOf, aliveOf, hasKey, keyWord, position, seconds, scalesOf, blocksOf, overlay}
+use Rattle.index.specs.Read.{hasSecond, versionIn, countIn, headerIn, stageFrom, keyFrom, markFrom, stagesIn, secondIn, tableIn, entryCount, entriesIn, slotIn, slotsIn, stateIn, entryFrom}
 use Rattle.index.specs.Sound.{AllShaped}
 use Rattle.index.proofs.Overlay.{secondOf, plain-seconds, residual-seconds}
 use Rattle.index.proofs.Read.{Accepted, read-live, read-length, read-sound}

@@ -1,15 +1,14 @@
 -- The numbers of a file whose head and limits are sound.
-use mathlib.Core.Path.{_≡_, refl, sym, ap, ap₂, _∙_}
-use mathlib.Core.Bool.{Bool, true, false, cond, _&&_}
+use mathlib.Core.Path.{_≡_, sym, ap, ap₂, _∙_}
+use mathlib.Core.Bool.{false, cond, _&&_}
 use mathlib.Core.List.{List}
-use Prim.Native.Nat.{ℕ, zero, suc, _≤_, _<_}
+use Prim.Native.Nat.{ℕ, _≤_}
 use native.Mathlib.Omega.{arith}
 use lib.Dec.{eqb, leb, ltb}
 use borrow.Author.Tests.{ltb-false, leb-true, le-leb}
 use Rattle.lists.proofs.Keep.{either}
 use Rattle.lists.proofs.Front.{map-tab}
 use Rattle.codes.specs.Writing.{atWidth}
-use Rattle.encode.specs.declared.Header.{Header}
 use Rattle.encode.specs.Header.{blockSize}
 use Rattle.index.specs.declared.Index.{Index}
 use Rattle.index.specs.Arrays.{Arrays}
@@ -91,8 +90,9 @@ module _ (file : List ℕ) (head : headFault file ≡ 0) where
     pub low-block : blockSize (headerIn file) ≤ 4096
     low-block = small-block (headerIn file) working-low width-most
 
-  pub block-is : (h : Header) (block : ℕ) → h ≡ headerIn file → block ≡ atWidth (h .width) (blockSize h) → block ≡ blockSize (headerIn file)
-  block-is h block e f = f ∙ ap (λ (g : Header). atWidth (g .width) (blockSize g)) e ∙ at-width (blockSize (headerIn file))
+  pub block-is : (x : Index) (block : ℕ) → x ≡ recordOf (stateIn file) → block ≡ atWidth (x .bits) (blockSize (headerOf x)) → block ≡ blockSize (headerIn file)
+  unfolding recordOf stateIn
+  block-is x block e f = f ∙ ap (λ (y : Index). atWidth (y .bits) (blockSize (headerOf y))) e ∙ at-width (blockSize (headerIn file))
 
   pub sizes-are : (v block n first second : ℕ) → v ≡ versionIn file → block ≡ blockSize (headerIn file) → n ≡ countIn file → first ≡ stageLength v block n →
       second ≡ cond (hasSecond v) first 0 → _≡_ {A = Sizes} (record { version = v; block = block; n = n; first = first; second = second }) (sizesOf file)

@@ -1,8 +1,8 @@
 -- A stage that is copied from bytes, and keys that are set.
-use mathlib.Core.Path.{_≡_, refl, sym, ap, _∙_}
+use mathlib.Core.Path.{_≡_, sym, ap, _∙_}
 use mathlib.Core.Bool.{Bool}
 use mathlib.Core.List.{List}
-use Prim.Native.Nat.{ℕ, _+_, _*_, _≤_, _<_}
+use Prim.Native.Nat.{ℕ, _*_, _≤_}
 use native.Mathlib.Omega.{arith}
 use lib.ListN.{length, take, drop, getD, length-drop}
 use lib.Seq.{length-take-le, getD-take}
@@ -11,7 +11,6 @@ use Rattle.lists.specs.Lists.{tab, over}
 use Rattle.lists.proofs.Laws.{getD-default}
 use Rattle.lists.proofs.Front.{map-tab, tab-is}
 use Rattle.codes.specs.Stage.{Stage}
-use Rattle.codes.specs.Slots.{blockAt}
 use Rattle.index.specs.State.{joined, scalesOf, blocksOf}
 use Rattle.index.specs.Read.{scaleSize, littleEndian, scaleFrom, stageLength, stageFrom}
 use Rattle.index.proofs.Blocks.{joined-blocks}

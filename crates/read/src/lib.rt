@@ -4,15 +4,12 @@ ghost use mathlib.Core.Bool.{false, cond};
 ghost use Prim.Native.Nat.{_+_, _*_, _≤_};
 ghost use lib.ListN.{length, take, drop};
 ghost use Rattle.lists.specs.Lists.{tab, over};
-ghost use Rattle.codes.specs.Writing.{atWidth};
-ghost use Rattle.encode.specs.Header.{blockSize};
 ghost use Rattle.index.specs.Arrays.{lent};
 ghost use Rattle.index.specs.State.{recordOf, scalesOf, blocksOf};
 ghost use Rattle.index.specs.Read.{scaleSize, hasSecond, hasKeys, littleEndian, headFault, overLimits, scaleFrom, stageLength, stageFrom, secondIn, tableIn, entryCount, stateIn, readRefusal, readInto};
 ghost use Rattle.held_order.specs.Restored.{risingPosition};
 ghost use Rattle.key_table.specs.Table.{wordFrom, onFrom};
 ghost use Rattle.read.specs.Parts.{sizesOf, restShort, keysSound, bodyFault, handed};
-use encode::Header;
 use index::Index;
 use index::Made;
 
@@ -25,13 +22,6 @@ pub struct Sizes {
     pub n: usize,
     pub first: usize,
     pub second: usize,
-}
-
-// How many bytes a slot has of each stage.
-fn block_size(header: Header) -> usize
-    ensures { λ r. ⌜ r ≡ atWidth (header .width) (blockSize header) ⌝ }
-{
-    codes::bytes_per_vector(rhdh::padded_dim(header.working), header.width)
 }
 
 // How many bytes a scale has.
@@ -66,7 +56,7 @@ fn sizes_in(file: &[u8]) -> Sizes
     ensures { λ r. ⌜ r ≡ sizesOf (now (file .entry)) ⌝ }
 {
     let version = header::version_in(file);
-    let block = block_size(header::header_in(file));
+    let block = layout::block_size(index_in(file));
     let n = header::count_in(file) as usize;
     let first = stage_length(version, block, n);
     Sizes {

@@ -6,7 +6,7 @@ use borrow.Author.Tests.{lt-ltb, le-ltb, ne-eqb, not-true, not-false}
 use lib.Dec.{ltb}
 use lib.ListN.{length}
 use Rattle.index.specs.Step.{firstOf}
-use Rattle.index.specs.Read.{known, littleEndian, versionIn, dimIn, workingField, headerIn, headFault}
+use Rattle.index.specs.Read.{known, littleEndian, versionIn, dimIn, workingField, headFault}
 use Rattle.header.specs.Head.{widthOf, headLength}
 use borrow.Author.Needs.{needs}
 use Rattle.header.proofs.head_fault.Statement.{statement}

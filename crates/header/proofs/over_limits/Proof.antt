@@ -1,7 +1,7 @@
 -- `header::over_limits` meets its contract.
 use native.Mathlib.Omega.{arith}
 use borrow.Author.Tests.{lt-ltb, le-ltb}
-use Rattle.index.specs.Read.{dimIn, countIn}
+use Rattle.index.specs.Read.{dimIn}
 use borrow.Author.Needs.{needs}
 use Rattle.header.proofs.over_limits.Statement.{statement}
 use Rattle.header.proofs.over_limits.Tie as tie

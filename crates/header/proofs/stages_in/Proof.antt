@@ -1,6 +1,5 @@
 -- `header::stages_in` meets its contract.
-use mathlib.Core.Path.{ap, _∙_}
-use lib.ListN.{drop}
+use mathlib.Core.Path.{_∙_}
 use borrow.Author.Needs.{needs}
 use Rattle.header.proofs.stages_in.Statement.{statement}
 use Rattle.header.proofs.stages_in.Tie as tie

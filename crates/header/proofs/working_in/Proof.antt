@@ -1,6 +1,5 @@
 -- `header::working_in` meets its contract.
 use mathlib.Core.Path.{sym, _∙_}
-use native.Mathlib.Omega.{arith}
 use borrow.Author.Tests.{eq-eqb, ne-eqb}
 use Rattle.index.specs.Read.{headerIn, workingField}
 use borrow.Author.Needs.{needs}

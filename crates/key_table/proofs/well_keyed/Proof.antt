@@ -1,5 +1,4 @@
 -- `key_table::well_keyed` meets its contract.
-use mathlib.Core.Path.{sym, _∙_}
 use borrow.Author.Tests.{lt-leb, le-leb}
 use borrow.Author.Needs.{needs}
 use Rattle.key_table.proofs.well_keyed.Statement.{statement}

@@ -1,6 +1,6 @@
 -- `read::body_fault` meets its contract.
 use mathlib.Core.Path.{_≡_, sym, ap, _∙_}
-use mathlib.Core.Bool.{true, false}
+use mathlib.Core.Bool.{false}
 use native.Mathlib.Omega.{arith}
 use borrow.Author.Tests.{lt-ltb, le-ltb, eq-eqb, ne-eqb}
 use lib.Dec.{ltb, eqb}
@@ -8,7 +8,7 @@ use lib.ListN.{length}
 use Rattle.encode.specs.declared.Header.{Header}
 use Rattle.index.specs.Step.{firstOf}
 use Rattle.index.specs.Read.{dimIn, headerIn, firstLength, stagesIn}
-use Rattle.read.specs.Parts.{restShort, keysSound, bodyFault}
+use Rattle.read.specs.Parts.{bodyFault}
 use Rattle.read.proofs.Limits.{first-is}
 use borrow.Author.Needs.{needs}
 use Rattle.read.proofs.body_fault.Statement.{statement}

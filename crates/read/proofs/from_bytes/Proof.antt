@@ -1,5 +1,5 @@
 -- `read::from_bytes` meets its contract.
-use mathlib.Core.Path.{_≡_, sym, _∙_}
+use mathlib.Core.Path.{sym, _∙_}
 use Rattle.index.specs.Arrays.{Arrays, lent}
 use Rattle.read.proofs.Faults.{passed-head, read-none}
 use Rattle.read.proofs.Call.{first-room, marks-room, second-room, done}

@@ -1,6 +1,6 @@
 -- `read::read_fault` meets its contract.
 use mathlib.Core.Path.{_≡_, sym, _∙_}
-use mathlib.Core.Bool.{true, false}
+use mathlib.Core.Bool.{false}
 use native.Mathlib.Omega.{arith}
 use Rattle.index.specs.Arrays.{Arrays, lent}
 use Rattle.index.specs.Read.{headFault, overLimits}

@@ -1,12 +1,12 @@
 -- `read::rest_short` meets its contract.
-use mathlib.Core.Path.{_≡_, ap, ap₂, _∙_}
-use mathlib.Core.Bool.{true, false, cond}
+use mathlib.Core.Path.{ap, ap₂, _∙_}
+use mathlib.Core.Bool.{cond}
 use Prim.Native.Nat.{ℕ, _+_, _*_}
 use native.Mathlib.Omega.{arith}
 use borrow.Author.Tests.{lt-ltb, le-ltb}
 use lib.Dec.{ltb}
 use lib.ListN.{length}
-use Rattle.index.specs.Read.{hasKeys, versionIn, secondIn, secondLength, tableIn, entryCount}
+use Rattle.index.specs.Read.{hasKeys, secondIn, secondLength}
 use Rattle.read.proofs.Limits.{version-is, second-is}
 use borrow.Author.Needs.{needs}
 use Rattle.read.proofs.rest_short.Statement.{statement}

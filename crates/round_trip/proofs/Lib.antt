@@ -1,0 +1,10 @@
+-- Laws of reading and writing together.
+pub mod Agree
+pub mod End
+pub mod Fields
+mod Halves
+mod Stages
+mod Keys
+pub mod Back
+pub mod Again
+pub mod Compacted
