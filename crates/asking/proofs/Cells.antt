@@ -1,7 +1,6 @@
 -- The hits of marked slots are those of the step, whose cells are these slots: for the live marks, and for the marks of any candidates.
-use mathlib.Core.Path.{_≡_, refl, sym, ap, _∙_}
-use mathlib.Core.Bool.{Bool, _||_}
-use mathlib.Core.List.{List, [], _∷_, map, map-map, map-id}
+use mathlib.Core.Path.{_≡_, sym, ap, _∙_}
+use mathlib.Core.List.{List, map, map-map, map-id}
 use Prim.Native.Nat.{ℕ, _<_}
 use lib.Ieee.{Float, isNan}
 use Rattle.lists.specs.Keep.{keep, Each}
@@ -14,14 +13,10 @@ use Rattle.encode.specs.declared.Header.{Header}
 use Rattle.index.specs.Arrays.{Arrays}
 use Rattle.index.specs.State.{slotAt}
 use Rattle.index.specs.Step.{any, Cell, keyOfMark, Hit, hitOf, rank, bySlot, hitsOf}
+use Rattle.index.proofs.Questions.{any-map}
 use Rattle.held.specs.Held.{below}
 use Rattle.held.proofs.Live.{cellAt}
 use Rattle.hits.specs.Hits.{scoreAt, marked, entered, chosen}
-
-any-map : {X Y : Type 0} (p : Y → Bool) (f : X → Y) (xs : List X) → any p (map f xs) ≡ any (λ x. p (f x)) xs
-unfolding any
-any-map p f [] = refl
-any-map p f (x ∷ xs) = ap (λ b. p (f x) || b) (any-map p f xs)
 
 -- the score of each slot by the arrays
 abbrev pub scores : Header → Arrays → (query : List Float) → ℕ → Float

@@ -1,6 +1,6 @@
 -- Reading: document 01, "format.rs, byte form", taken apart block by block in the order in which `fileOf` puts them together. Where each block begins, and the file's stated
 -- end, is said in the crate `layout`; what follows that end counts for nothing here and is named `tailIn`.
-use mathlib.Core.Bool.{Bool, true, false, not, cond, _&&_, _||_}
+use mathlib.Core.Bool.{Bool, false, not, cond, _&&_, _||_}
 use mathlib.Core.List.{List, [], _∷_, map}
 use mathlib.Core.Option.{Option, none, some}
 use Prim.Native.Nat.{ℕ, zero, suc, _+_, _*_}
