@@ -56,21 +56,22 @@ live-numbered i (s ∷ ss) = go (live s) (live-numbered (suc i) ss)
     go true ih = rw ih
     go false ih = ih
 
-module _ (f : ℕ → Slot) (n : ℕ) where
-  numbered-tab : numbered 0 (tab f n) ≡ map (λ i. (i, f i)) (below n)
-  numbered-tab =
-      sym (tab-is (λ i. (i, f i)) (numbered 0 (tab f n)) (λ i d l. sym (at i d (rw (length-numbered 0 (tab f n)) at l))))
-      ∙ ap (tab (λ i. (i, f i))) (length-numbered 0 (tab f n) ∙ length-tab f n) ∙ sym (map-tab (λ i. (i, f i)) (λ i. i) n)
-    where
-      at : (i : ℕ) (d : ℕ × Slot) → i < length (tab f n) → getD (numbered 0 (tab f n)) i d ≡ (i, f i)
-      at i d l = getD-numbered 0 (tab f n) i d l ∙ rw (zero-add i, getD-tab f n i (d .1) (rw (length-tab f n) at l))
+-- a table's entries are numbered by their places
+pub numbered-tab : {X : Type 0} (f : ℕ → X) (n : ℕ) → numbered 0 (tab f n) ≡ map (λ i. (i, f i)) (below n)
+numbered-tab {X} f n =
+    sym (tab-is (λ i. (i, f i)) (numbered 0 (tab f n)) (λ i d l. sym (at i d (rw (length-numbered 0 (tab f n)) at l))))
+    ∙ ap (tab (λ i. (i, f i))) (length-numbered 0 (tab f n) ∙ length-tab f n) ∙ sym (map-tab (λ i. (i, f i)) (λ i. i) n)
+  where
+    at : (i : ℕ) (d : ℕ × X) → i < length (tab f n) → getD (numbered 0 (tab f n)) i d ≡ (i, f i)
+    at i d l = getD-numbered 0 (tab f n) i d l ∙ rw (zero-add i, getD-tab f n i (d .1) (rw (length-tab f n) at l))
 
+module _ (f : ℕ → Slot) (n : ℕ) where
   abbrev pub cellAt : ℕ → Cell
   cellAt i = record { number = i; slot = f i }
 
   pub live-tab : liveFrom 0 (tab f n) ≡ map cellAt (keep (λ i. live (f i)) (below n))
   live-tab =
-      live-numbered 0 (tab f n) ∙ ap (λ (es : List (ℕ × Slot)). map cell (keep (λ e. live (e .1)) es)) numbered-tab
+      live-numbered 0 (tab f n) ∙ ap (λ (es : List (ℕ × Slot)). map cell (keep (λ e. live (e .1)) es)) (numbered-tab f n)
       ∙ ap (map cell) (keep-map (λ i. (i, f i)) (λ e. live (e .1)) (below n)) ∙ map-map cell (λ i. (i, f i)) (keep (λ i. live (f i)) (below n))
 
   -- ---- questions that no dead slot passes

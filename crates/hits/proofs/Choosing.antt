@@ -1,24 +1,24 @@
 -- From the order numbers in the working array to the choice among the marked slots.
-use mathlib.Core.Path.{_≡_, refl, sym, ap, _∙_, subst}
+use mathlib.Core.Path.{_≡_, refl, ap, _∙_, subst}
 use mathlib.Core.Bool.{Bool, true, false}
 use mathlib.Core.List.{List, [], _∷_, map, map-map, map-id}
-use Prim.Native.Nat.{ℕ, _<_}
-use native.Mathlib.Nat.{zero-add}
+use Prim.Native.Nat.{ℕ}
 use lib.Dec.{T, ltb}
-use lib.ListN.{length, getD}
+use lib.ListN.{getD}
 use lib.Ieee.{Float, binary32, fits, isNan}
 use borrow.Author.Tests.{lt-ltb}
 use Rattle.pattern.specs.Binary32.{+0}
 use Rattle.lists.specs.Lists.{tab}
-use Rattle.lists.specs.Keep.{keep, numbered, Each}
-use Rattle.lists.proofs.Laws.{length-tab, getD-tab}
-use Rattle.lists.proofs.Keep.{each-keep, each-kept, length-numbered, getD-numbered}
-use Rattle.lists.proofs.Front.{map-tab, tab-is, each-tab}
+use Rattle.lists.specs.Keep.{keep, Each}
+use Rattle.lists.proofs.Laws.{getD-tab}
+use Rattle.lists.proofs.Keep.{each-keep, each-kept}
+use Rattle.lists.proofs.Front.{each-tab}
 use Rattle.choose.specs.Choose.{choose}
 use Rattle.choose.proofs.Choice.{choose-map, choose-each}
 use Rattle.score.specs.Order.{orderNumber}
 use Rattle.score.proofs.Order.{number-positive}
 use Rattle.held.specs.Held.{below}
+use Rattle.held.proofs.Live.{numbered-tab}
 use Rattle.choose_slots.specs.Slots as Slots
 use Rattle.choose_slots.specs.Slots.{listed}
 use Rattle.hits.specs.Hits.{marked, entered, chosen}
@@ -26,15 +26,6 @@ use Rattle.hits.specs.Steps.{scoreEntry, orderEntry}
 use Rattle.hits.proofs.Entering.{nanAt}
 
 -- ---- lists
-
--- a table's entries are numbered by their places
-numbered-tab : {X : Type 0} (f : ℕ → X) (n : ℕ) → numbered 0 (tab f n) ≡ map (λ i. (i, f i)) (below n)
-numbered-tab {X} f n =
-    sym (tab-is (λ i. (i, f i)) (numbered 0 (tab f n)) (λ i d l. sym (at i d (rw (length-numbered 0 (tab f n)) at l))))
-    ∙ ap (tab (λ i. (i, f i))) (length-numbered 0 (tab f n) ∙ length-tab f n) ∙ sym (map-tab (λ i. (i, f i)) (λ i. i) n)
-  where
-    at : (i : ℕ) (d : ℕ × X) → i < length (tab f n) → getD (numbered 0 (tab f n)) i d ≡ (i, f i)
-    at i d l = getD-numbered 0 (tab f n) i d l ∙ rw (zero-add i, getD-tab f n i (d .1) (rw (length-tab f n) at l))
 
 pub map-each-same : {X Y : Type 0} (f g : X → Y) (xs : List X) → Each (λ x. f x ≡ g x) xs → map f xs ≡ map g xs
 map-each-same f g [] h = refl
