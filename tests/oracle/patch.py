@@ -1,14 +1,15 @@
 #!/usr/bin/env python3
-"""patch.py FOLDER: makes the copy of the Rust core in FOLDER the one that the oracle links.
+"""patch.py FOLDER [--published]: makes the copy of the Rust core in FOLDER the one that the oracle links. With --published its choice between scalar
+and vector instructions stays as it is: the benchmark measures both.
 
 Each row is a file, a whole line of it but for a comment at its end, and the line that takes its place. A line that is not there exactly once is an
 error: then the sources are not those that this page was written for, and nothing may be compared with them."""
 import os
 import sys
 
+# The vector-instruction branches are left out of the index (document 01), so the oracle takes the scalar ones.
+SCALAR = [("store.rs", '        std::is_x86_feature_detected!("avx2")', "        false")]
 ROWS = [
-    # The vector-instruction branches are left out of the index (document 01), so the oracle takes the scalar ones.
-    ("store.rs", '        std::is_x86_feature_detected!("avx2")', "        false"),
     # Private functions that the oracle calls.
     ("format.rs", "fn f32_to_f16_bits(x: f32) -> u16 {", "pub fn f32_to_f16_bits(x: f32) -> u16 {"),
     ("format.rs", "pub(crate) fn f16_bits_to_f32(h: u16) -> f32 {", "pub fn f16_bits_to_f32(h: u16) -> f32 {"),
@@ -40,7 +41,8 @@ ROWS = [
 
 def main():
     folder = sys.argv[1]
-    for name, old, new in ROWS:
+    rows = ROWS if sys.argv[2:] == ["--published"] else SCALAR + ROWS
+    for name, old, new in rows:
         path = os.path.join(folder, name)
         with open(path, encoding="utf-8") as f:
             lines = f.read().split("\n")
@@ -50,7 +52,7 @@ def main():
         lines[at[0]] = new
         with open(path, "w", encoding="utf-8") as f:
             f.write("\n".join(lines))
-    print(f"patch.py: {len(ROWS)} lines patched in {folder}")
+    print(f"patch.py: {len(rows)} lines patched in {folder}")
 
 
 main()

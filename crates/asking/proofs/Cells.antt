@@ -16,7 +16,8 @@ use Rattle.index.specs.Step.{any, Cell, keyOfMark, Hit, hitOf, rank, bySlot, hi
 use Rattle.index.proofs.Questions.{any-map}
 use Rattle.held.specs.Held.{below}
 use Rattle.held.proofs.Live.{cellAt}
-use Rattle.hits.specs.Hits.{scoreAt, marked, entered, chosen}
+use Rattle.scan.specs.Scan.{marked}
+use Rattle.hits.specs.Hits.{scoreAt, entered, chosen}
 
 -- the score of each slot by the arrays
 abbrev pub scores : Header → Arrays → (query : List Float) → ℕ → Float

@@ -18,7 +18,7 @@ use Rattle.index.specs.Step.{liveFrom}
 use Rattle.index.proofs.Fits.{record-self}
 use Rattle.held.specs.Held.{below}
 use Rattle.held.proofs.Live.{cellAt, live-tab}
-use Rattle.hits.specs.Hits.{marked}
+use Rattle.scan.specs.Scan.{marked}
 use Rattle.asking.proofs.Cells.{cells}
 
 mark-live : (mark : ℕ) (on : Bool) (k p : ℕ) → isLive (markOf mark on k p) ≡ ltb 0 mark

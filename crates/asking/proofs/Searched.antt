@@ -26,7 +26,8 @@ use Rattle.fit.proofs.Rooms.{enough}
 use Rattle.held.specs.Held.{below}
 use Rattle.held.proofs.Live.{cellAt}
 use Rattle.score_slot.specs.Query.{queryFault}
-use Rattle.hits.specs.Hits.{marked, entered, chosen}
+use Rattle.scan.specs.Scan.{marked}
+use Rattle.hits.specs.Hits.{entered, chosen}
 use Rattle.asking.specs.Faults.{placesFault, searchFault}
 use Rattle.asking.proofs.Cells.{scores, cells, hit, hits-chosen}
 use Rattle.asking.proofs.Live.{live-cells, live-length}

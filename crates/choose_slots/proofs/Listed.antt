@@ -7,7 +7,7 @@ use native.Mathlib.Nat.{sub-zero}
 use native.Mathlib.Omega.{arith}
 use lib.ListN.{length, take, drop, length-map, length-take}
 use lib.Dec.{leb, ltb}
-use borrow.Author.Tests.{le-leb, lt-leb}
+use borrow.Author.Tests.{leb-true, le-leb, lt-leb}
 use Rattle.lists.specs.Lists.{over}
 use Rattle.lists.specs.Keep.{count, numbered}
 use Rattle.choose.specs.Choose.{choose}
@@ -36,6 +36,16 @@ module _ (orders : List ℕ) (k : ℕ) (places : List ℕ) where
   pub answered-listed : length orders ≤ 65536 → length (listed orders k) ≤ length places → answered orders k places ≡ listed orders k
   unfolding answered
   answered-listed few room = rw (le-leb (length orders) 65536 few, le-leb (length (listed orders k)) (length places) room)
+
+  -- no more than there is room for
+  pub answered-few : length (answered orders k places) ≤ length places
+  unfolding answered
+  answered-few = go (leb (length orders) 65536) (leb (length (listed orders k)) (length places)) refl
+    where
+      go : (a b : Bool) → leb (length (listed orders k)) (length places) ≡ b → length (cond (a && b) (listed orders k) []) ≤ length places
+      go true true e = leb-true (length (listed orders k)) (length places) e
+      go true false e = omega arith
+      go false b e = omega arith
 
   -- what the call ensures of its result and of the places after it
   abbrev Answers : ℕ → List ℕ → Type 0

@@ -6,3 +6,4 @@ pub mod Slots
 mod Index
 mod TwoBytes
 mod AllCodes
+mod Eights

@@ -71,11 +71,15 @@ packable-of w codes bytes h =
     let d = both (eqb bytes (bytesPerVector w (length codes))) (below (2 ^ w) codes) (b .1) in
     record { width = width-of w (b .0); size = eqb-true bytes (bytesPerVector w (length codes)) (d .0); fit = below-true (2 ^ w) (pow-pos w) codes (d .1) }
 
+pub packable-yes : (w : ℕ) (codes : List ℕ) (bytes : ℕ) → Packable w codes bytes → packable w codes bytes ≡ true
+unfolding packable
+packable-yes w codes bytes h =
+    rw (is-width (h .width), eq-eqb bytes (bytesPerVector w (length codes)) (h .size)) (below-yes (2 ^ w) codes (λ i l. h .fit i))
+
 pub written-yes : {w : ℕ} {codes : List ℕ} (spares : ℕ) (block : List ℕ) → Packable w codes (length block)
     → written w codes spares block ≡ packed w codes spares
-unfolding written packable
-written-yes {w} {codes} spares block h =
-    rw (is-width (h .width), eq-eqb (length block) (bytesPerVector w (length codes)) (h .size), below-yes (2 ^ w) codes (λ i l. h .fit i))
+unfolding written
+written-yes {w} {codes} spares block h = rw (packable-yes w codes (length block) h)
 
 pub written-no : (w : ℕ) (codes : List ℕ) (spares : ℕ) (block : List ℕ) → packable w codes (length block) ≡ false
     → written w codes spares block ≡ block

@@ -3,8 +3,9 @@ ghost use mathlib.Core.Path.{_≡_};
 ghost use mathlib.Core.Bool.{true};
 ghost use Prim.Native.Nat.{_+_, _-_, _*_, _/_, _%_, _^_, _<_, _≤_};
 ghost use lib.Dec.{leb};
-ghost use lib.ListN.{length, getD, set};
-ghost use Rattle.digits.specs.Digits.{below, replaced};
+ghost use lib.ListN.{length, getD, set, take};
+ghost use Rattle.lists.specs.Lists.{over};
+ghost use Rattle.digits.specs.Digits.{number, digits, Below, below, replaced};
 ghost use Rattle.codes.specs.Packing.{bytesPerVector, codeAt, spare, packed};
 ghost use Rattle.codes.specs.Writing.{isWidth, atWidth, hasPlace, withCode, packable, appended, overwritten};
 ghost use Rattle.codes.specs.Slots.{blockAt};
@@ -131,20 +132,19 @@ pub fn pack_code(block: &mut [u8], i: usize, bits: u8, code: u8)
     }
 }
 
-// Whether every code is one of this width.
+// Whether every code is one of this width. All are looked at, without a jump out of the loop: so they can be tested many at a time.
 fn all_fit(codes: &[u8], bits: u8) -> bool
     requires { ⌜ bits ≤ 8 ⌝ }
     ensures { λ r. ⌜ r ≡ below (2 ^ bits) (now (codes .entry)) ⌝ }
 {
     let base = power(bits);
+    let mut fit = true;
     let mut i = 0;
     while i < codes.len() {
-        if base <= codes[i] as u16 {
-            return false;
-        }
+        fit = fit & ((codes[i] as u16) < base);
         i += 1;
     }
-    true
+    fit
 }
 
 // Whether these are codes of this width, and a block of so many bytes is theirs.
@@ -160,8 +160,67 @@ fn is_packable(bytes: usize, codes: &[u8], bits: u8) -> bool
     all_fit(codes, bits)
 }
 
+// Up to eight codes as one number, the first in its lowest bits.
+fn joined(codes: &[u8], bits: u8) -> u64
+    requires { ⌜ (bits ≤ 8) × (length (now codes) ≤ 8) × Below (2 ^ bits) (now codes) ⌝ }
+    ensures { λ r. ⌜ r ≡ number (2 ^ bits) (now (codes .entry)) ⌝ }
+{
+    let base = power(bits) as u64;
+    let mut sum = 0u64;
+    let mut i = codes.len();
+    while 0 < i {
+        i -= 1;
+        sum = codes[i] as u64 + base * sum;
+    }
+    sum
+}
+
+// A number over all of these bytes, its lowest byte first.
+fn put_number(bytes: &mut [u8], value: u64)
+    ensures { λ _. ⌜ now (bytes .exit) ≡ digits 256 (length (now (bytes .entry))) value ⌝ }
+{
+    let mut rest = value;
+    let mut i = 0;
+    while i < bytes.len() {
+        bytes[i] = (rest % 256) as u8;
+        rest = rest / 256;
+        i += 1;
+    }
+}
+
+// Writes the codes as far as they come in eights: eight codes are one number of `bits` bytes.
+fn put_eights_at(block: &mut [u8], codes: &[u8], bits: u8)
+    requires { ⌜ packable bits (now codes) (length (now block)) ≡ true ⌝ }
+    ensures { λ _. ⌜ now (block .exit) ≡ over (packed bits (take (8 * (length (now (codes .entry)) / 8)) (now (codes .entry))) 0) (now (block .entry)) ⌝ }
+{
+    let w = bits as usize;
+    let mut k = 0;
+    while k < codes.len() / 8 {
+        let from = 8 * k;
+        let to = from + 8;
+        let value = joined(&codes[from..to], bits);
+        let start = w * k;
+        let end = start + w;
+        put_number(&mut block[start..end], value);
+        k += 1;
+    }
+}
+
+// The same, with the three widths written out, so that the compiler knows how far it shifts.
+fn put_eights(block: &mut [u8], codes: &[u8], bits: u8)
+    requires { ⌜ packable bits (now codes) (length (now block)) ≡ true ⌝ }
+    ensures { λ _. ⌜ now (block .exit) ≡ over (packed bits (take (8 * (length (now (codes .entry)) / 8)) (now (codes .entry))) 0) (now (block .entry)) ⌝ }
+{
+    match bits {
+        4 => put_eights_at(block, codes, 4),
+        5 => put_eights_at(block, codes, 5),
+        6 => put_eights_at(block, codes, 6),
+        w => put_eights_at(block, codes, w),
+    }
+}
+
 // Writes the codes of a vector over its block, one after the other; what stands above them stays.
-fn put_codes(block: &mut [u8], codes: &[u8], bits: u8)
+fn put_each(block: &mut [u8], codes: &[u8], bits: u8)
     requires { ⌜ packable bits (now codes) (length (now block)) ≡ true ⌝ }
     ensures { λ _. ⌜ now (block .exit) ≡ packed bits (now (codes .entry)) (spare bits (length (now (codes .entry))) (now (block .entry))) ⌝ }
 {
@@ -170,6 +229,20 @@ fn put_codes(block: &mut [u8], codes: &[u8], bits: u8)
         pack_code(block, i, bits, codes[i]);
         i += 1;
     }
+}
+
+// The same, eight at a time, and one by one what is left over.
+fn put_codes(block: &mut [u8], codes: &[u8], bits: u8)
+    requires { ⌜ packable bits (now codes) (length (now block)) ≡ true ⌝ }
+    ensures { λ _. ⌜ now (block .exit) ≡ packed bits (now (codes .entry)) (spare bits (length (now (codes .entry))) (now (block .entry))) ⌝ }
+{
+    put_eights(block, codes, bits);
+    let eights = codes.len() / 8;
+    let from = 8 * eights;
+    let to = codes.len();
+    let start = bits as usize * eights;
+    let end = block.len();
+    put_each(&mut block[start..end], &codes[from..to], bits);
 }
 
 // The codes of a vector, over the block of a slot that is overwritten: the spare bits stay.

@@ -31,6 +31,7 @@ use Rattle.fit.proofs.Rooms.{enough, in-width}
 use Rattle.fit.proofs.Meaning.{meaning}
 use Rattle.held_order.specs.Restored.{risingPosition}
 use Rattle.compact.specs.Gathered.{liveSlots, gathered, gatheredBlocks, Downward, withKept}
+use Rattle.compact.proofs.Gathering.{over-over}
 use Rattle.compact.proofs.Rising.{rising-map, rising-length, rising-positions}
 use Rattle.compact.proofs.Kept.{few-kept, numbers-down, gathered-kept, blocks-kept, keptSlots, kept-length, kept-map, kept-words, kept-keyed, kept-alive, none-dead}
 
@@ -149,9 +150,9 @@ module _ (h : Header) (a : Arrays) (n : ℕ) (space : n ≤ capacity h a) (old :
 
 -- ---- what the program has done
 
--- `old` was the list of slots before the numbers were written to it, and `second` the number of second stages
-pub record ClosedUp (x : Index) (a b : Arrays) (old slots : List ℕ) (n size second : ℕ) : Type 0 where
-  pub listed : slots ≡ over (liveSlots (a .alive) (x .n)) old
+-- `slots` is held order once the numbers of the live slots were written over it, and `second` the number of second stages
+pub record ClosedUp (x : Index) (a b : Arrays) (slots : List ℕ) (n size second : ℕ) : Type 0 where
+  pub listed : slots ≡ over (liveSlots (a .alive) (x .n)) (a .held)
   pub many : n ≡ length (liveSlots (a .alive) (x .n))
   pub size-is : size ≡ blockSize (headerOf x)
   pub second-is : second ≡ cond (x .residual) n 0
@@ -159,7 +160,7 @@ pub record ClosedUp (x : Index) (a b : Arrays) (old slots : List ℕ) (n size se
   pub scales : b .scales ≡ gathered slots n 0 (a .scales)
   pub keys : b .keys ≡ gathered slots n 0 (a .keys)
   pub keyed : b .keyed ≡ gathered slots n false (a .keyed)
-  pub held : b .held ≡ over (tab (risingPosition (b .keys) (b .keyed)) n) (a .held)
+  pub held : b .held ≡ over (tab (risingPosition (b .keys) (b .keyed)) n) slots
   pub alive : b .alive ≡ over (tab (λ i. 1) n) (a .alive)
   pub codes2 : b .codes2 ≡ gatheredBlocks slots second size (a .codes2)
   pub scales2 : b .scales2 ≡ gathered slots second 0 (a .scales2)
@@ -171,26 +172,26 @@ module _ (x : Index) (a : Arrays) (e : fit x a ≡ true) where
   room : Enough (headerOf x) a (x .n)
   room = enough (headerOf x) a (x .n) (fits .room)
 
-  pub few-slots : x .n ≤ 65536
-  few-slots = room .few
+  pub places-room : (x .n ≤ length (a .held)) × (x .n ≤ 65536)
+  places-room = (room .held, room .few)
 
   pub whole-size : (size : ℕ) → size ≡ atWidth (x .bits) (blockSize (headerOf x)) → size ≡ blockSize (headerOf x)
   whole-size size f = f ∙ in-width (x .bits) (blockSize (headerOf x)) (fits .fields .bits) (fits .fields .bits-high)
 
-  module _ (old slots : List ℕ) (n : ℕ) (places : x .n ≤ length old) (listed : slots ≡ over (liveSlots (a .alive) (x .n)) old) (many : n ≡ length (liveSlots (a .alive) (x .n))) where
+  module _ (slots : List ℕ) (n : ℕ) (listed : slots ≡ over (liveSlots (a .alive) (x .n)) (a .held)) (many : n ≡ length (liveSlots (a .alive) (x .n))) where
     down : (space : ℕ) → x .n ≤ space → Downward slots n space
-    down space l = rw (listed, many) (numbers-down (a .alive) (x .n) old places space l)
+    down space l = rw (listed, many) (numbers-down (a .alive) (x .n) (a .held) (room .held) space l)
 
     kept-few : n ≤ x .n
-    kept-few = rw many (few-kept (a .alive) (x .n) old places)
+    kept-few = rw many (few-kept (a .alive) (x .n) (a .held) (room .held))
 
     pub first-room : (size : ℕ) → size ≡ blockSize (headerOf x) → Downward slots n (length (a .codes) / size) × Downward slots n (length (a .scales))
     first-room size f = rw f (down (length (a .codes) / blockSize (headerOf x)) (room .codes), down (length (a .scales)) (room .scales))
 
-    pub marks-room : (Downward slots n (length (a .keys)) × Downward slots n (length (a .keyed))) × ((n ≤ length (a .held)) × (n ≤ length (a .alive)) × (n ≤ 65536))
+    pub marks-room : (Downward slots n (length (a .keys)) × Downward slots n (length (a .keyed))) × ((n ≤ length (a .alive)) × (n ≤ 65536))
     marks-room = (
       (down (length (a .keys)) (room .keys), down (length (a .keyed)) (room .keyed)),
-      (omega (arith, kept-few, room .held), omega (arith, kept-few, room .alive), omega (arith, kept-few, room .few)),
+      (omega (arith, kept-few, room .alive), omega (arith, kept-few, room .few)),
     )
 
     pub second-room : (size second : ℕ) → size ≡ blockSize (headerOf x) → second ≡ cond (x .residual) n 0 → Downward slots second (length (a .codes2) / size) × Downward slots second (length (a .scales2))
@@ -203,20 +204,32 @@ module _ (x : Index) (a : Arrays) (e : fit x a ≡ true) where
         go true r = (down (length (a .codes2) / blockSize (headerOf x)) (room .codes2 r), down (length (a .scales2)) (room .scales2 r))
         go false r = (none (length (a .codes2) / blockSize (headerOf x)), none (length (a .scales2)))
 
-  pub closed-up : (b : Arrays) (old slots : List ℕ) (n size second : ℕ) → x .n ≤ length old → ClosedUp x a b old slots n size second → b ≡ overlay a (compacted (stateOf x a .slots))
+  pub closed-up : (b : Arrays) (slots : List ℕ) (n size second : ℕ) → ClosedUp x a b slots n size second → b ≡ overlay a (compacted (stateOf x a .slots))
   unfolding stateOf
-  closed-up b old slots n size second places c =
+  closed-up b slots n size second c =
       (λ j. record {
         codes = (rw (c .listed, c .many, c .size-is) at (c .codes)) j;
         scales = (rw (c .listed, c .many) at (c .scales)) j;
         keys = (rw (c .listed, c .many) at (c .keys)) j;
         keyed = (rw (c .listed, c .many) at (c .keyed)) j;
-        held = (rw (c .keys, c .keyed, c .listed, c .many) at (c .held)) j;
+        held = ((rw (c .keys, c .keyed, c .listed, c .many) at (c .held)) ∙ unlisted) j;
         alive = (rw (c .many) at (c .alive)) j;
         codes2 = (rw (c .second-is, c .listed, c .many, c .size-is) at (c .codes2)) j;
         scales2 = (rw (c .second-is, c .listed, c .many) at (c .scales2)) j;
       })
-      ∙ compacted-arrays (headerOf x) a (x .n) (fits .room) old places
+      ∙ compacted-arrays (headerOf x) a (x .n) (fits .room) (a .held) (room .held)
+    where
+      nums : List ℕ
+      nums = liveSlots (a .alive) (x .n)
+
+      from : List ℕ
+      from = over nums (a .held)
+
+      rising : List ℕ
+      rising = tab (risingPosition (gathered from (length nums) 0 (a .keys)) (gathered from (length nums) false (a .keyed))) (length nums)
+
+      unlisted : over rising from ≡ over rising (a .held)
+      unlisted = over-over rising nums (a .held) (rw (length-tab (risingPosition (gathered from (length nums) 0 (a .keys)) (gathered from (length nums) false (a .keyed))) (length nums)) (omega arith))
 
 -- ---- the record
 

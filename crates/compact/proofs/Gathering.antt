@@ -2,7 +2,7 @@
 use mathlib.Core.Path.{_≡_, refl, sym, ap, _∙_}
 use mathlib.Core.List.{List, [], _∷_, _++_, append-nil}
 use Prim.Native.Nat.{ℕ, zero, suc, _+_, _-_, _*_, _/_, _≤_, _<_}
-use native.Mathlib.Nat.{suc-mul, mul-le-mul-right, div-mul-le-self}
+use native.Mathlib.Nat.{suc-mul, mul-le-mul-right, div-le-self, div-mul-le-self}
 use native.Mathlib.Numerals.{add-one}
 use native.Mathlib.Omega.{arith}
 use lib.ListN.{length, getD, set, take, drop, length-append, length-drop, length-set}
@@ -106,10 +106,19 @@ drop-rest ys xs k l =
     ap (λ (j : ℕ). drop j (ys ++ drop (length ys) xs)) (sym e) ∙ drop-append-add ys (drop (length ys) xs) (k - length ys)
     ∙ drop-drop (k - length ys) (length ys) xs ∙ ap (λ (j : ℕ). drop j xs) e
 
+-- of two lists written over the same places, the later one is read
+pub over-over : {A : Type 0} (ys zs xs : List A) → length zs ≤ length ys → over ys (over zs xs) ≡ over ys xs
+unfolding over
+over-over ys zs xs l = ap (λ rest. ys ++ rest) (drop-rest zs xs (length ys) l)
+
 module _ (slots : List ℕ) (n size : ℕ) (old : List ℕ) (w : Downward slots n (length old / size)) where
   pub blocks-none : MovedBlocks slots n 0 size old old
   unfolding gatheredBlocks joined over
   blocks-none = record { few = omega arith; written = refl; same = refl }
+
+  -- there are no more blocks than bytes
+  pub block-number : (i : ℕ) → i < n → getD slots i 0 < length old
+  block-number i l = omega (arith, w .below i l, div-le-self (length old) size)
 
   -- a slot's block lies in the array
   block-room : (i : ℕ) → i < n → getD slots i 0 * size + size ≤ length old

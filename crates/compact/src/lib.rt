@@ -1,4 +1,6 @@
 // Compaction: the live slots move down over the dead ones, in slot order, and held order rises again.
+//
+// Held order is written anew at the end, so until then its first places keep the numbers of the slots that stay: the call needs no list of its own.
 ghost use mathlib.Core.Path.{_≡_};
 ghost use mathlib.Core.Bool.{true, false, cond};
 ghost use Prim.Native.Nat.{_+_, _*_, _/_, _≤_, _<_};
@@ -18,14 +20,9 @@ use index::Made;
 
 // ---- which slots stay
 
-// Places for the numbers of 65,536 slots.
-fn places() -> [usize; 65536] {
-    [0; 65536]
-}
-
 // Writes the numbers of the live slots, in slot order, and returns how many there are.
-fn live_slots(alive: &[u8], n: usize, slots: &mut [usize]) -> usize
-    requires { ⌜ n ≤ length (now slots) ⌝ }
+fn live_slots(alive: &[u8], n: usize, slots: &mut [u32]) -> usize
+    requires { ⌜ (n ≤ length (now slots)) × (n ≤ 65536) ⌝ }
     ensures { λ r. ⌜ r ≡ length (liveSlots (now (alive .entry)) n) ⌝ }
     ensures { λ r. ⌜ now (slots .exit) ≡ over (liveSlots (now (alive .entry)) n) (now (slots .entry)) ⌝ }
 {
@@ -33,7 +30,7 @@ fn live_slots(alive: &[u8], n: usize, slots: &mut [usize]) -> usize
     let mut i: usize = 0;
     while i < n {
         if 0 < fit::live_mark(alive, i) {
-            slots[many] = i;
+            slots[many] = i as u32;
             many += 1;
         }
         i += 1;
@@ -43,37 +40,37 @@ fn live_slots(alive: &[u8], n: usize, slots: &mut [usize]) -> usize
 
 // ---- entries and blocks move down
 
-fn gather_u32(xs: &mut [u32], slots: &[usize], n: usize)
+fn gather_u32(xs: &mut [u32], slots: &[u32], n: usize)
     requires { ⌜ Downward (now slots) n (length (now xs)) ⌝ }
     ensures { λ _. ⌜ now (xs .exit) ≡ gathered (now (slots .entry)) n 0 (now (xs .entry)) ⌝ }
 {
     let mut i = 0;
     while i < n {
-        let slot = slots[i];
+        let slot = slots[i] as usize;
         xs[i] = xs[slot];
         i += 1;
     }
 }
 
-fn gather_u64(xs: &mut [u64], slots: &[usize], n: usize)
+fn gather_u64(xs: &mut [u64], slots: &[u32], n: usize)
     requires { ⌜ Downward (now slots) n (length (now xs)) ⌝ }
     ensures { λ _. ⌜ now (xs .exit) ≡ gathered (now (slots .entry)) n 0 (now (xs .entry)) ⌝ }
 {
     let mut i = 0;
     while i < n {
-        let slot = slots[i];
+        let slot = slots[i] as usize;
         xs[i] = xs[slot];
         i += 1;
     }
 }
 
-fn gather_bool(xs: &mut [bool], slots: &[usize], n: usize)
+fn gather_bool(xs: &mut [bool], slots: &[u32], n: usize)
     requires { ⌜ Downward (now slots) n (length (now xs)) ⌝ }
     ensures { λ _. ⌜ now (xs .exit) ≡ gathered (now (slots .entry)) n false (now (xs .entry)) ⌝ }
 {
     let mut i = 0;
     while i < n {
-        let slot = slots[i];
+        let slot = slots[i] as usize;
         xs[i] = xs[slot];
         i += 1;
     }
@@ -91,20 +88,20 @@ fn move_bytes(codes: &mut [u8], size: usize, from: usize, to: usize)
     }
 }
 
-fn gather_blocks(codes: &mut [u8], size: usize, slots: &[usize], n: usize)
+fn gather_blocks(codes: &mut [u8], size: usize, slots: &[u32], n: usize)
     requires { ⌜ Downward (now slots) n (length (now codes) / size) ⌝ }
     ensures { λ _. ⌜ now (codes .exit) ≡ gatheredBlocks (now (slots .entry)) n size (now (codes .entry)) ⌝ }
 {
     let mut i: usize = 0;
     while i < n {
-        let slot = slots[i];
+        let slot = slots[i] as usize;
         move_bytes(codes, size, slot * size, i * size);
         i += 1;
     }
 }
 
 // The scales and the blocks of one stage.
-fn gather_stage(codes: &mut [u8], scales: &mut [u32], size: usize, slots: &[usize], n: usize)
+fn gather_stage(codes: &mut [u8], scales: &mut [u32], size: usize, slots: &[u32], n: usize)
     requires { ⌜ Downward (now slots) n (length (now codes) / size) × Downward (now slots) n (length (now scales)) ⌝ }
     ensures { λ _. ⌜ now (codes .exit) ≡ gatheredBlocks (now (slots .entry)) n size (now (codes .entry)) ⌝ }
     ensures { λ _. ⌜ now (scales .exit) ≡ gathered (now (slots .entry)) n 0 (now (scales .entry)) ⌝ }
@@ -127,24 +124,17 @@ fn mark_live(alive: &mut [u8], n: usize)
     }
 }
 
-// The keys move down, held order rises, and all slots that are kept are live.
-fn gather_marks(
-    keys: &mut [u64],
-    keyed: &mut [bool],
-    held: &mut [u32],
-    alive: &mut [u8],
-    slots: &[usize],
-    n: usize,
-)
-    requires { ⌜ Downward (now slots) n (length (now keys)) × Downward (now slots) n (length (now keyed)) ⌝ }
-    requires { ⌜ (n ≤ length (now held)) × (n ≤ length (now alive)) × (n ≤ 65536) ⌝ }
-    ensures { λ _. ⌜ now (keys .exit) ≡ gathered (now (slots .entry)) n 0 (now (keys .entry)) ⌝ }
-    ensures { λ _. ⌜ now (keyed .exit) ≡ gathered (now (slots .entry)) n false (now (keyed .entry)) ⌝ }
+// The keys of the slots that `held` lists move down, held order rises in their stead, and all slots that are kept are live.
+fn gather_marks(keys: &mut [u64], keyed: &mut [bool], held: &mut [u32], alive: &mut [u8], n: usize)
+    requires { ⌜ Downward (now held) n (length (now keys)) × Downward (now held) n (length (now keyed)) ⌝ }
+    requires { ⌜ (n ≤ length (now alive)) × (n ≤ 65536) ⌝ }
+    ensures { λ _. ⌜ now (keys .exit) ≡ gathered (now (held .entry)) n 0 (now (keys .entry)) ⌝ }
+    ensures { λ _. ⌜ now (keyed .exit) ≡ gathered (now (held .entry)) n false (now (keyed .entry)) ⌝ }
     ensures { λ _. ⌜ now (held .exit) ≡ over (tab (risingPosition (now (keys .exit)) (now (keyed .exit))) n) (now (held .entry)) ⌝ }
     ensures { λ _. ⌜ now (alive .exit) ≡ over (tab (λ _. 1) n) (now (alive .entry)) ⌝ }
 {
-    gather_u64(keys, slots, n);
-    gather_bool(keyed, slots, n);
+    gather_u64(keys, held, n);
+    gather_bool(keyed, held, n);
     held_order::restore_order(keys, keyed, held, n);
     mark_live(alive, n);
 }
@@ -206,18 +196,17 @@ pub fn compact(
         codes2,
         scales2,
     ) {
-        let mut slots = places();
-        let n = live_slots(alive, index.n, &mut slots);
+        let n = live_slots(alive, index.n, held);
         let size = block_size(index);
-        gather_stage(codes, scales, size, &slots, n);
-        gather_marks(keys, keyed, held, alive, &slots, n);
+        gather_stage(codes, scales, size, held, n);
         gather_stage(
             codes2,
             scales2,
             size,
-            &slots,
+            held,
             second_stages(index.residual, n),
         );
+        gather_marks(keys, keyed, held, alive, n);
         return Made::Index(with_kept(index, n));
     }
     Made::Refused(13)

@@ -1,12 +1,13 @@
 -- Lists of digits: the test, one digit replaced, parts.
 use mathlib.Core.Path.{_≡_, refl, sym, subst}
-use mathlib.Core.List.{List, [], _∷_}
-use mathlib.Core.Bool.{Bool, true, false, _&&_}
+use mathlib.Core.List.{List, [], _∷_, _++_}
+use mathlib.Core.Bool.{Bool, true, false, _&&_, and-true, and-assoc}
 use Prim.Native.Nat.{ℕ, zero, suc, _<_, _≤_, suc-le-suc, zero-le}
 use native.Mathlib.Nat.{zero-lt-suc, lt-of-le-of-lt}
 use borrow.Author.Tests.{ltb-true, lt-ltb, le-ltb}
 use lib.Dec.{T, ltb}
 use lib.ListN.{length, getD, take, drop, set}
+use lib.Seq.{take-suc}
 use Rattle.digits.specs.Digits.{Below, below}
 
 -- two tests that hold together
@@ -34,6 +35,14 @@ module _ (B : ℕ) where
   below-true pos [] h i = pos
   below-true pos (d ∷ ds) h zero = ltb-true d B (both (ltb d B) (below B ds) h .0)
   below-true pos (d ∷ ds) h (suc i) = below-true pos ds (both (ltb d B) (below B ds) h .1) i
+
+  -- the test, one digit more
+  below-snoc : (ds : List ℕ) (d : ℕ) → below B (ds ++ (d ∷ [])) ≡ (below B ds && ltb d B)
+  below-snoc [] d = and-true (ltb d B)
+  below-snoc (x ∷ ds) d = rw (below-snoc ds d) (sym (and-assoc (ltb x B) (below B ds) (ltb d B)))
+
+  pub below-next : (ds : List ℕ) (i : ℕ) → i < length ds → below B (take (suc i) ds) ≡ (below B (take i ds) && ltb (getD ds i 0) B)
+  below-next ds i h = rw (take-suc ds i 0 h) (below-snoc (take i ds) (getD ds i 0))
 
   pub below-set : (ds : List ℕ) (i d : ℕ) → Below B ds → d < B → Below B (set ds i d)
   below-set [] i d h l k = h k

@@ -1,8 +1,9 @@
 -- The digits of a number: how many, which, parts of them, and back to the number.
 use mathlib.Core.Path.{_≡_, refl, sym, ap, _∙_}
-use mathlib.Core.List.{List, [], _∷_}
+use mathlib.Core.List.{List, [], _∷_, _++_}
 use Prim.Native.Nat.{ℕ, zero, suc, _+_, _-_, _*_, _/_, _%_, _^_, _<_, min, suc-le-suc}
-use native.Mathlib.Nat.{sub-zero, zero-sub, suc-sub-suc, zero-min, min-zero, suc-min-suc, pow-zero, pow-suc, pow-succ', mod-one, mod-lt, one-le-pow}
+use native.Mathlib.Nat.{zero-add, suc-add, sub-zero, zero-sub, suc-sub-suc, zero-min, min-zero, suc-min-suc}
+use native.Mathlib.Nat.{pow-zero, pow-suc, pow-succ', mod-one, mod-lt, mod-eq-of-lt, one-le-pow}
 use native.Mathlib.Omega.{arith}
 use lib.Arith.{mod-mul}
 use lib.ListN.{length, getD, take, drop}
@@ -28,6 +29,10 @@ module _ (B : ℕ) where
   drop-digits (suc m) zero v = rw (zero-sub (suc m))
   drop-digits (suc m) (suc n) v = rw (suc-sub-suc n m, ← div-first B v m) (drop-digits m n (v / B))
 
+  pub digits-add : (n m v : ℕ) → digits B (n + m) v ≡ digits B n v ++ digits B m (v / B ^ n)
+  digits-add zero m v = rw (zero-add m, div-pow-zero B v)
+  digits-add (suc n) m v = rw (suc-add n m, ← div-first B v n) (ap (λ (ds : List ℕ). v % B ∷ ds) (digits-add n m (v / B)))
+
   module _ (pos : 0 < B) where
     pub below-digits : (n v : ℕ) → Below B (digits B n v)
     below-digits zero v i = pos
@@ -48,3 +53,9 @@ module _ (B : ℕ) where
 
   pub digits-number : (ds : List ℕ) → Below B ds → digits B (length ds) (number B ds) ≡ ds
   digits-number ds h = ap (λ (z : ℕ). digits B (length ds) z) (omega arith) ∙ digits-parts ds 0 h
+
+  -- the digits of a number in two parts
+  pub digits-joined : 0 < B → (n m x y : ℕ) → x < B ^ n → digits B (n + m) (x + B ^ n * y) ≡ digits B n x ++ digits B m y
+  digits-joined pos n m x y h =
+      let low : digits B n (x + B ^ n * y) ≡ digits B n x = rw (length-digits n x, number-digits pos n x, mod-eq-of-lt h) at (digits-parts (digits B n x) y (below-digits pos n x)) in
+      rw (digits-add n m (x + B ^ n * y), low, div-parts (B ^ n) x y h)

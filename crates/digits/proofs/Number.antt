@@ -7,7 +7,7 @@ use native.Mathlib.Numerals.{add-one}
 use native.Mathlib.Omega.{arith}
 use lib.Arith.{digits-lt, mod-mul}
 use lib.ListN.{length, getD, take, drop, set, length-set}
-use lib.Seq.{getD-drop, getD-set-other}
+use lib.Seq.{drop-cons, getD-drop, getD-set-other}
 use Rattle.digits.specs.Digits.{number, Below}
 use Rattle.digits.proofs.Places.{div-parts, mod-parts, mod-mul-parts, div-pow-zero, div-first, div-last}
 use Rattle.digits.proofs.Below.{base-pos, below-drop}
@@ -20,6 +20,10 @@ module _ (B : ℕ) where
   pub number-lt : (ds : List ℕ) → Below B ds → number B ds < B ^ length ds
   number-lt [] h = omega (arith, pow-zero B)
   number-lt (d ∷ ds) h = omega (arith, pow-suc B (length ds), digits-lt (number-lt ds (λ i. h (suc i))) (h 0))
+
+  -- one digit more, from above
+  pub number-from : (i : ℕ) (ds : List ℕ) → i < length ds → number B (drop i ds) ≡ getD ds i 0 + B * number B (drop (suc i) ds)
+  number-from i ds h = ap (number B) (drop-cons ds i 0 h)
 
   -- the digits from i on, and those before i
   pub number-drop : (i : ℕ) (ds : List ℕ) → Below B ds → number B (drop i ds) ≡ number B ds / B ^ i

@@ -10,7 +10,7 @@ use lib.Dec.{leb, ltb, eqb}
 use lib.Ieee.{Float, nan}
 use borrow.Author.Tests.{leb-true, eqb-true}
 use Rattle.lists.specs.Lists.{tab, over, zipWith}
-use Rattle.lists.proofs.Laws.{length-tab, getD-default, getD-tab, tab-ext, zip-tab}
+use Rattle.lists.proofs.Laws.{getD-default, tab-ext, zip-tab}
 use Rattle.lists.proofs.Entries.{entries}
 use Rattle.lists.proofs.Front.{getD-front, tab-map}
 use Rattle.digits.proofs.Below.{both}
@@ -38,7 +38,9 @@ use Rattle.index.specs.State.{stageAt, slotAt}
 use Rattle.index.specs.Codec.{apart, total, distance}
 use Rattle.distances.specs.Distances.{distanceAt, past, liveDistance, measurable}
 use Rattle.distances.specs.Lanes.{topOf, laneApart, lanesApart, slotApart}
+use Rattle.distances.specs.Pairs.{Low}
 use Rattle.distances.proofs.Lanes.{total-most, top-low}
+use Rattle.distances.proofs.Pairs.{written-at}
 
 -- it looks at a slot's first block only
 pub distance-slot : (h : Header) (a : Arrays) (q : List Float) (i : ℕ) → distanceAt h (a .codes) q i ≡ distance h q (slotAt h a i .code)
@@ -101,6 +103,9 @@ top-most : (r x : Float) → topOf r x ≤ 3
 unfolding topOf levelsOf byWidth
 top-most r x = omega (arith, quantized-le (boundariesOf 4) (x ⊗ r), boundaries-length 4)
 
+pub tops-low : (next : List Float) (r : Float) (lanes : ℕ) (old tops : List ℕ) → tops ≡ over (tab (λ i. topOf r (getD next i nan)) lanes) old → Low tops lanes
+tops-low next r lanes old tops e i l = rw (written-at (λ j. topOf r (getD next j nan)) lanes old tops e i l) (top-most r (getD next i nan))
+
 pub distance-below : (h : Header) (codes : List ℕ) (q : List Float) (i : ℕ) → padded h ≤ 4096 → distanceAt h codes q i < past
 unfolding distanceAt
 distance-below h codes q i l =
@@ -108,8 +113,8 @@ distance-below h codes q i l =
     omega (
       arith,
       distance-lanes h q c,
-      total-most (λ j. apart (queryTop h q j) (codeAt 4 (c .first .block) j / 4)) (padded h)
-          (λ j. omega (arith, top-most (rnorm (rotatedOf h q)) (getD (prepared (rotatedOf h q)) j nan), top-low (c .first .block) j)),
+      total-most (λ j. apart (queryTop h q j) (codeAt 4 (c .first .block) j / 4)) 3 (padded h)
+          (λ j k. omega (arith, top-most (rnorm (rotatedOf h q)) (getD (prepared (rotatedOf h q)) j nan), top-low (c .first .block) j)),
     )
 
 -- ---- the program's sums
@@ -123,8 +128,7 @@ module _ (h : Header) (q out next : List Float) (r : Float) (t : rotatable (h .w
 
   top-at : (i : ℕ) → i < lanes → getD tops i 0 ≡ queryTop h q i
   top-at i l =
-      ap (λ (xs : List ℕ). getD xs i 0) written ∙ getD-front _ old i 0 (rw (length-tab (λ i. topOf r (getD next i nan)) lanes) l)
-      ∙ getD-tab (λ i. topOf r (getD next i nan)) lanes i 0 l
+      written-at (λ j. topOf r (getD next j nan)) lanes old tops written i l
       ∙ (λ j. topOf (prepared-query j .rnorm) (getD (prepared-query j .out) i nan))
       ∙ ap (topOf (rnorm (rotatedOf h q))) (getD-front (prepared (rotatedOf h q)) out i nan (rw (length-query h q) (omega arith)))
 

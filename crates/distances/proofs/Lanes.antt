@@ -1,11 +1,13 @@
--- A sum over lanes, as a loop makes it, and how large it can be.
-use mathlib.Core.Path.{_≡_, refl, ap, _∙_}
+-- Sums over lanes and over bytes, as loops make them, and how large they can be.
+use mathlib.Core.Path.{_≡_, ap, _∙_}
 use mathlib.Core.List.{List, [], _∷_, _++_}
-use Prim.Native.Nat.{ℕ, zero, suc, _+_, _*_, _/_, _≤_, _<_}
+use Prim.Native.Nat.{ℕ, zero, suc, _+_, _-_, _*_, _/_, _≤_, _<_}
+use native.Mathlib.Nat.{add-zero, add-suc, zero-add, mul-suc}
 use native.Mathlib.Numerals.{add-one}
 use native.Mathlib.Omega.{arith}
 use lib.ListN.{getD}
 use Rattle.lists.specs.Lists.{tab}
+use Rattle.digits.specs.Digits.{Below}
 use Rattle.codes.specs.Packing.{codeAt}
 use Rattle.codes.specs.Writing.{atWidth}
 use Rattle.codes.proofs.Packing.{codeAt-lt}
@@ -19,49 +21,66 @@ total-append [] ys = omega arith
 total-append (x ∷ xs) ys = omega (arith, total-append xs ys)
 
 module _ (f : ℕ → ℕ) where
-  total-next : (n : ℕ) → total (tab f (suc n)) ≡ total (tab f n) + f n
+  pub total-next : (n : ℕ) → total (tab f (suc n)) ≡ total (tab f n) + f n
   unfolding total
   total-next n = omega (arith, total-append (tab f n) (f n ∷ []))
 
-  pub total-most : (n : ℕ) → ((i : ℕ) → f i ≤ 3) → total (tab f n) ≤ 3 * n
+  -- n more, each at most k
+  pub total-more : (k m n : ℕ) → ((i : ℕ) → i < m + n → f i ≤ k) → total (tab f (m + n)) ≤ total (tab f m) + k * n
+  total-more k m zero h = rw add-zero (omega arith)
+  total-more k m (suc n) h =
+      rw (add-suc, mul-suc) (omega (arith, total-next (m + n), total-more k m n (λ i l. h i (omega arith)), h (m + n) (omega arith)))
+
+  pub total-most : (k n : ℕ) → ((i : ℕ) → i < n → f i ≤ k) → total (tab f n) ≤ k * n
   unfolding total
-  total-most zero h = omega arith
-  total-most (suc n) h = omega (arith, total-next n, total-most n h, h n)
+  total-most k n h = rw (zero-add n, zero-add (k * n)) at (total-more k 0 n (λ i l. h i (omega arith)))
+
+-- ---- a loop that sums f from `from` on
+
+pub record Gained (f : ℕ → ℕ) (from to sum i : ℕ) : Type 0 where
+  pub within : i ≤ to
+  pub so-far : total (tab f from) + sum ≡ total (tab f i)
+
+pub gained-none : (f : ℕ → ℕ) (from to : ℕ) → from ≤ to → Gained f from to 0 from
+gained-none f from to l = record { within = l; so-far = omega arith }
+
+module _ {f : ℕ → ℕ} {from to sum i : ℕ} (g : Gained f from to sum i) where
+  -- with the sum up to j
+  pub gained-part : (j r : ℕ) → j ≤ to → total (tab f i) + r ≡ total (tab f j) → Gained f from to (sum + r) j
+  gained-part j r l e = record { within = l; so-far = omega (arith, g .so-far) }
+
+  pub gained-more : i < to → (r : ℕ) → r ≡ f i → Gained f from to (sum + r) (i + 1)
+  gained-more l r e = gained-part (i + 1) r (omega arith) (rw (add-one i) (omega (arith, total-next f i)))
+
+  pub gained-all : to ≤ i → total (tab f from) + sum ≡ total (tab f to)
+  gained-all l = let e : i ≡ to = omega (arith, g .within) in rw e at (g .so-far)
+
+  pub gained-most : (k : ℕ) → ((j : ℕ) → j < i → f j ≤ k) → sum ≤ k * i
+  gained-most k h = omega (arith, g .so-far, total-most f k i h)
+
+-- with the sum of the rest, from the first on
+pub gained-rest : {f : ℕ → ℕ} {to sum i : ℕ} → Gained f 0 to sum i → (r : ℕ) → total (tab f i) + r ≡ total (tab f (i + (to - i))) → sum + r ≡ total (tab f to)
+unfolding total
+gained-rest {f} {to} {sum} {i} g r e = let at : i + (to - i) ≡ to = omega (arith, g .within) in omega (arith, g .so-far, rw at at e)
+
+-- ---- one lane
 
 -- the top two bits of a code of four are below 4
 pub top-low : (block : List ℕ) (i : ℕ) → codeAt 4 block i / 4 ≤ 3
 top-low block i = omega (arith, codeAt-lt 4 block i)
 
--- ---- the loop
+module _ (tops block : List ℕ) (i : ℕ) where
+  -- as it is read
+  pub lane-read : (code r : ℕ) → code ≡ atWidth 4 (codeAt 4 block i) → r ≡ apart (getD tops i 0) (code / 4) → r ≡ laneApart tops block i
+  unfolding laneApart
+  lane-read code r is e =
+      e ∙ ap (λ (c : ℕ). apart (getD tops i 0) (c / 4)) (is ∙ at-width (codeAt 4 block i) (record { some = omega arith; most = omega arith }))
 
-pub record Summed (tops block : List ℕ) (lanes sum i : ℕ) : Type 0 where
-  pub within : i ≤ lanes
-  pub so-far : sum ≡ lanesApart tops block i
-  pub low : sum ≤ 255 * i
+  pub lane-low : getD tops i 0 < 256 → laneApart tops block i ≤ 255
+  unfolding laneApart
+  lane-low l = omega (arith, top-low block i)
 
-pub summed-none : (tops block : List ℕ) (lanes : ℕ) → Summed tops block lanes 0 0
-unfolding lanesApart total
-summed-none tops block lanes = record { within = omega arith; so-far = refl; low = omega arith }
-
-module _ {tops block : List ℕ} {lanes sum i : ℕ} (s : Summed tops block lanes sum i) (l : i < lanes) (code r : ℕ) (is : code ≡ atWidth 4 (codeAt 4 block i))
-    (e : r ≡ apart (getD tops i 0) (code / 4)) (byte : getD tops i 0 < 256) where
-  code-is : code ≡ codeAt 4 block i
-  code-is = is ∙ at-width (codeAt 4 block i) (record { some = omega arith; most = omega arith })
-
-  lane-is : r ≡ apart (getD tops i 0) (codeAt 4 block i / 4)
-  lane-is = e ∙ ap (λ (c : ℕ). apart (getD tops i 0) (c / 4)) code-is
-
-  pub lane-low : r ≤ 255
-  lane-low = omega (arith, lane-is, top-low block i)
-
-  pub summed-more : Summed tops block lanes (sum + r) (i + 1)
-  unfolding lanesApart laneApart
-  summed-more =
-      record {
-        within = omega arith;
-        so-far = rw (add-one i) (omega (arith, s .so-far, lane-is, total-next (laneApart tops block) i));
-        low = omega (arith, s .low, lane-low);
-      }
-
-pub summed-all : {tops block : List ℕ} {lanes sum i : ℕ} → Summed tops block lanes sum i → lanes ≤ i → sum ≡ lanesApart tops block lanes
-summed-all {tops} {block} {lanes} {sum} {i} s l = let e : i ≡ lanes = omega (arith, s .within) in rw e at (s .so-far)
+-- all lanes
+pub lanes-most : (tops block : List ℕ) (n : ℕ) → Below 256 tops → lanesApart tops block n ≤ 255 * n
+unfolding lanesApart
+lanes-most tops block n bytes = total-most (laneApart tops block) 255 n (λ i l. lane-low tops block i (bytes i))

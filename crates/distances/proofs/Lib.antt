@@ -1,3 +1,4 @@
 -- Laws of the cascade's distances.
 pub mod Distance
 mod Lanes
+mod Pairs

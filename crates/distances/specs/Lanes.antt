@@ -1,7 +1,7 @@
 -- Words of the contracts on the way to a distance.
 use mathlib.Core.Bool.{cond}
 use mathlib.Core.List.{List}
-use Prim.Native.Nat.{ℕ, _/_}
+use Prim.Native.Nat.{ℕ, _+_, _/_, _%_}
 use lib.ListN.{getD}
 use lib.Dec.{ltb}
 use lib.Ieee.{Float}
@@ -25,6 +25,13 @@ laneApart tops block i = apart (getD tops i 0) (codeAt 4 block i / 4)
 -- "the sum over lanes"
 unfoldable pub lanesApart : (tops block : List ℕ) → (lanes : ℕ) → ℕ
 lanesApart tops block n = total (tab (laneApart tops block) n)
+
+-- the same of a byte, whose low code is in an even lane and whose high code in the next
+unfoldable pub byteApart : (even odd block : List ℕ) → ℕ → ℕ
+byteApart even odd block i = apart (getD even i 0) (getD block i 0 % 16 / 4) + apart (getD odd i 0) (getD block i 0 / 64)
+
+unfoldable pub bytesApart : (even odd block : List ℕ) → (bytes : ℕ) → ℕ
+bytesApart even odd block n = total (tab (byteApart even odd block) n)
 
 -- of a live slot's block, which has `size` bytes; `past` for a dead slot
 unfoldable pub slotApart : (codes alive : List ℕ) → (size : ℕ) → (tops : List ℕ) → (lanes : ℕ) → ℕ → ℕ

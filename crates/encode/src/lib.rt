@@ -3,10 +3,10 @@ ghost use mathlib.Core.Path.{_≡_};
 ghost use mathlib.Core.Bool.{true};
 ghost use Prim.Native.Nat.{_≤_};
 ghost use lib.ListN.{length};
-ghost use Rattle.pattern.specs.Binary32.{larger};
+ghost use Rattle.pattern.specs.Binary32.{sumSquares, larger};
 ghost use Rattle.stage.specs.Coding.{table};
 ghost use Rattle.stage.specs.Calls.{fits};
-ghost use Rattle.encode.specs.Encode.{floor, differences, dot, rootMeanSquare, scaled, residual, joinedNorm, firstScale, secondScale};
+ghost use Rattle.encode.specs.Encode.{floor, differences, dot, rootMeanSquare, scaled, residual, firstScale, secondScale};
 ghost use Rattle.encode.specs.Header.{padded};
 ghost use Rattle.encode.specs.Coded.{encoded};
 ghost use Rattle.encode.specs.Calls.{stages, sparesAfter, storedBoth, residualInto, encodable, placed, encodedInto};
@@ -26,18 +26,37 @@ pub struct Scales {
     pub scale2: u32,
 }
 
-// The products of the entries at the same places, summed in index order.
-fn dot(xs: &[f32], ys: &[f32]) -> f32
-    requires { ⌜ length (now ys) ≡ length (now xs) ⌝ }
-    ensures { λ r. ⌜ r ≡ dot (now (xs .entry)) (now (ys .entry)) ⌝ }
+// What two vectors sum up to: the squares of the first, the products of both, the squares of the second.
+struct ThreeSums {
+    first: f32,
+    cross: f32,
+    second: f32,
+}
+
+// The three sums, each in index order. In one loop, since an addition waits for the one before it in its own sum only.
+fn sum_up(d: &[f32], e: &[f32]) -> ThreeSums
+    requires { ⌜ length (now e) ≡ length (now d) ⌝ }
+    ensures first { λ r. ⌜ r .first ≡ sumSquares (now (d .entry)) ⌝ }
+    ensures cross { λ r. ⌜ r .cross ≡ dot (now (d .entry)) (now (e .entry)) ⌝ }
+    ensures second { λ r. ⌜ r .second ≡ sumSquares (now (e .entry)) ⌝ }
 {
-    let mut sum = 0.0f32;
+    let mut first = 0.0f32;
+    let mut cross = 0.0f32;
+    let mut second = 0.0f32;
     let mut i = 0;
-    while i < xs.len() {
-        sum = sum + xs[i] * ys[i];
+    while i < d.len() {
+        let x = d[i];
+        let y = e[i];
+        first = first + x * x;
+        cross = cross + x * y;
+        second = second + y * y;
         i += 1;
     }
-    sum
+    ThreeSums {
+        first,
+        cross,
+        second,
+    }
 }
 
 fn subtract(xs: &[f32], ys: &[f32], out: &mut [f32])
@@ -85,26 +104,17 @@ fn scale_rest(rotated: &[f32], d: &[f32], e: &mut [f32]) -> f32
     rms
 }
 
-// The norm of d + rms * e.
-fn joined_norm(d: &[f32], e: &[f32], rms: f32) -> f32
-    requires { ⌜ length (now e) ≡ length (now d) ⌝ }
-    ensures { λ r. ⌜ r ≡ joinedNorm rms (now (d .entry)) (now (e .entry)) ⌝ }
-{
-    let sum_sq = unit::sum_squares(d);
-    let cross = dot(d, e);
-    let norm1_sq = unit::sum_squares(e);
-    let norm_sq = sum_sq + 2.0 * rms * cross + rms * rms * norm1_sq;
-    sqrt::sqrt(at_least_floor(norm_sq))
-}
-
 // The scales of a residual slot from the centroids of its first codes, those of its second codes, and the root mean square by which the second were scaled.
+// They are over the norm of d + rms * e.
 fn residual_scales(d: &[f32], e: &[f32], rms: f32) -> Scales
     requires { ⌜ length (now e) ≡ length (now d) ⌝ }
     ensures first { λ r. ⌜ r .scale ≡ firstScale rms (now (d .entry)) (now (e .entry)) ⌝ }
     ensures second { λ r. ⌜ r .scale2 ≡ secondScale rms (now (d .entry)) (now (e .entry)) ⌝ }
 {
-    let root = sqrt::sqrt(unit::sum_squares(d));
-    let denom = joined_norm(d, e, rms);
+    let s = sum_up(d, e);
+    let root = sqrt::sqrt(s.first);
+    let norm_sq = s.first + 2.0 * rms * s.cross + rms * rms * s.second;
+    let denom = sqrt::sqrt(at_least_floor(norm_sq));
     let scale0 = 1.0 / root;
     Scales {
         scale: pattern::to_bits(scale0 * root / denom),

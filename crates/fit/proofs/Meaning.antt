@@ -10,27 +10,12 @@ use Rattle.lists.specs.Keep.{count}
 use Rattle.index.specs.declared.Index.{Index}
 use Rattle.index.specs.Arrays.{Arrays}
 use Rattle.index.specs.Fit.{between, Row, rowAt, fit}
-use Rattle.positions.specs.Decides.{Decides}
+use Rattle.position_tree.specs.Decides.{Decides}
 use Rattle.fit.specs.Fits.{liveMarks, keysOf, Fits}
-use Rattle.positions.proofs.Decides.{decided, decides-true}
+use Rattle.position_tree.proofs.Decides.{decided, decides-true}
 use Rattle.positions.proofs.Tests.{both, left, right, each, nothing, also}
+use Rattle.fit.proofs.Marks.{implied, implies}
 use Rattle.positions.proofs.Slots.{all-tab, tab-all, count-tab, rows-ordered}
-
--- b, or else c
-module _ (b c : Bool) where
-  implied : (not b || c) ≡ true → b ≡ true → c ≡ true
-  implied h e = go b h e
-    where
-      go : (x : Bool) → (not x || c) ≡ true → x ≡ true → c ≡ true
-      go true f g = f
-      go false f g = absurd (true≢false (sym g))
-
-  implies : (b ≡ true → c ≡ true) → (not b || c) ≡ true
-  implies h = go b h
-    where
-      go : (x : Bool) → (x ≡ true → c ≡ true) → (not x || c) ≡ true
-      go true f = f refl
-      go false f = refl
 
 between-parts : (low high x : ℕ) → between low high x ≡ true → (low ≤ x) × (x ≤ high)
 between-parts low high x e = (leb-true low x (left (leb low x) (leb x high) e), leb-true x high (right (leb low x) (leb x high) e))

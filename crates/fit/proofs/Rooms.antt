@@ -12,7 +12,7 @@ use Rattle.encode.specs.declared.Header.{Header}
 use Rattle.encode.specs.Header.{blockSize}
 use Rattle.index.specs.Arrays.{Arrays}
 use Rattle.index.specs.State.{rooms, least, capacity}
-use Rattle.positions.specs.Positions.{Room}
+use Rattle.position_tree.specs.Ordered.{Room}
 use Rattle.fit.specs.Fits.{keysOf, Enough}
 
 -- ---- the least

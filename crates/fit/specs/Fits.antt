@@ -12,7 +12,7 @@ use Rattle.encode.specs.Header.{blockSize}
 use Rattle.index.specs.declared.Index.{Index}
 use Rattle.index.specs.Arrays.{Arrays}
 use Rattle.index.specs.State.{headerOf, capacity}
-use Rattle.positions.specs.Positions.{Keys, Ordered}
+use Rattle.position_tree.specs.Ordered.{Keys, Ordered}
 
 -- "a record field outside its range, a residual record of width 5 or 6"
 pub record Fields (x : Index) : Type 0 where
@@ -29,13 +29,17 @@ pub record Marked (on : Bool) (mark : ℕ) : Type 0 where
   pub low : mark ≤ 1
   pub live : on ≡ true → mark ≡ 1
 
+-- that of each of the first n slots
+abbrev pub EachMarked : (keyed : List Bool) (alive : List ℕ) (n : ℕ) → Type 0
+EachMarked keyed alive n = (i : ℕ) → i < n → Marked (getD keyed i false) (getD alive i 0)
+
 -- how many of the first n slots are live
 abbrev pub liveMarks : List ℕ → ℕ → ℕ
 liveMarks alive n = count (λ m. eqb m 1) (tab (λ i. getD alive i 0) n)
 
--- that of each slot in use, and "a wrong live count"
+-- "a wrong live count"
 pub record Marks (keyed : List Bool) (alive : List ℕ) (n live : ℕ) : Type 0 where
-  pub slot : (i : ℕ) → i < n → Marked (getD keyed i false) (getD alive i 0)
+  pub slot : EachMarked keyed alive n
   pub count : live ≡ liveMarks alive n
 
 abbrev pub keysOf : Arrays → Keys

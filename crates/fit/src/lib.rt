@@ -1,15 +1,15 @@
 // Refusal 13's test of the index: whether a record and its lent arrays fit.
 ghost use mathlib.Core.Path.{_≡_};
 ghost use mathlib.Core.Bool.{false};
-ghost use Prim.Native.Nat.{_≤_, _<_, min};
+ghost use Prim.Native.Nat.{ℕ, _≤_, _<_, min};
 ghost use lib.ListN.{length, getD, set};
 ghost use Rattle.lists.specs.Keep.{bit};
 ghost use Rattle.codes.specs.Writing.{atWidth};
 ghost use Rattle.index.specs.Arrays.{lent};
 ghost use Rattle.index.specs.State as State;
 ghost use Rattle.index.specs.Fit.{fit};
-ghost use Rattle.positions.specs.Decides.{Decides};
-ghost use Rattle.fit.specs.Fits.{Fields, Marked, Marks};
+ghost use Rattle.position_tree.specs.Decides.{Decides};
+ghost use Rattle.fit.specs.Fits.{Fields, Marked, EachMarked, liveMarks, Marks};
 use index::Index;
 
 // ---- live marks, which are read and written here alone
@@ -106,37 +106,50 @@ pub fn capacity(
 
 // ---- marks
 
-// Whether a slot's mark is 0 or 1, and 1 if it has a key.
-fn mark_fits(keyed: &[bool], mark: u8, slot: usize) -> bool
-    requires { ⌜ slot < length (now keyed) ⌝ }
-    ensures { λ r. ⌜ Decides r (Marked (getD (now (keyed .entry)) slot false) mark) ⌝ }
+// Whether a mark is 0 or 1, and 1 if the slot has a key.
+fn mark_fits(keyed: bool, mark: u8) -> bool
+    ensures { λ r. ⌜ Decides r (Marked keyed mark) ⌝ }
 {
-    if 1 < mark {
-        return false;
-    }
-    if keyed[slot] {
-        return mark == 1;
-    }
-    true
+    (mark <= 1) & (!keyed | (mark == 1))
 }
 
-// Whether that is so of each slot in use, and the live count is right.
+// Whether that is so of each slot. No mark ends the loop, so that the compiler takes many slots at a time.
+fn each_fits(keyed: &[bool], alive: &[u8]) -> bool
+    ensures { λ r. ⌜ Decides r (EachMarked (now (keyed .entry)) (now (alive .entry)) (length (now (keyed .entry)))) ⌝ }
+{
+    let mut all = true;
+    let mut i = 0;
+    while i < keyed.len() {
+        all = all & mark_fits(keyed[i], live_mark(alive, i));
+        i += 1;
+    }
+    all
+}
+
+// How many slots are live, where each mark is 0 or 1. The sum is a u32, of which the compiler adds more at a time than of a usize.
+fn live_total(alive: &[u8]) -> usize
+    requires { ⌜ length (now alive) ≤ 65536 ⌝ }
+    requires { ⌜ ((i : ℕ) → i < length (now alive) → getD (now alive) i 0 ≤ 1) ⌝ }
+    ensures { λ r. ⌜ r ≡ liveMarks (now (alive .entry)) (length (now (alive .entry))) ⌝ }
+{
+    let mut many: u32 = 0;
+    let mut i = 0;
+    while i < alive.len() {
+        many += live_mark(alive, i) as u32;
+        i += 1;
+    }
+    many as usize
+}
+
+// Whether each slot in use has a mark that fits, and the live count is right.
 fn marks_fit(keyed: &[bool], alive: &[u8], n: usize, live: usize) -> bool
-    requires { ⌜ n ≤ length (now keyed) ⌝ }
+    requires { ⌜ (n ≤ 65536) × (n ≤ length (now keyed)) × (n ≤ length (now alive)) ⌝ }
     ensures { λ r. ⌜ Decides r (Marks (now (keyed .entry)) (now (alive .entry)) n live) ⌝ }
 {
-    let mut many: usize = 0;
-    let mut i = 0;
-    while i < n {
-        let mark = live_mark(alive, i);
-        if mark_fits(keyed, mark, i) {
-            many += mark as usize;
-            i += 1;
-        } else {
-            return false;
-        }
+    if each_fits(&keyed[0..n], &alive[0..n]) {
+        return live_total(&alive[0..n]) == live;
     }
-    many == live
+    false
 }
 
 // ---- the test

@@ -1,31 +1,31 @@
--- The numbers below n that pass a test, as a loop that counts up meets them.
-use mathlib.Core.Path.{_≡_, refl, sym, _∙_}
-use mathlib.Core.Bool.{Bool, true, false}
+-- The numbers below n that pass a test, as a loop that counts up meets them, and as the first n places of the arrays give them.
+use mathlib.Core.Path.{_≡_, refl, sym, ap, _∙_}
+use mathlib.Core.Bool.{Bool, true, false, _&&_, and-true, and-false}
 use mathlib.Core.Logic.{⊎-elim}
 use mathlib.Core.List.{List, [], _∷_, _++_}
 use Prim.Native.Nat.{ℕ, zero, suc, _+_, _≤_, _<_}
 use native.Mathlib.Nat.{eq-or-lt-of-le, le-of-suc-le-suc, le-antisymm}
 use native.Mathlib.Numerals.{add-one}
 use native.Mathlib.Omega.{arith}
-use lib.ListN.{getD}
-use mir.Val.{boolByte}
-use Rattle.lists.specs.Keep.{bit, keep, count}
+use lib.ListN.{getD, take}
+use lib.Seq.{getD-take}
+use lib.Dec.{eqb}
+use borrow.Author.Tests.{eq-eqb, ne-eqb}
+use Rattle.lists.specs.Keep.{bit, keep, count, Each}
 use Rattle.lists.proofs.Laws.{length-tab}
-use Rattle.lists.proofs.Keep.{count-append, count-length, keep-append}
-use Rattle.held.specs.Held.{below}
-
--- a yes counts one
-pub byte-low : (b : Bool) → boolByte b ≤ 1
-byte-low true = omega arith
-byte-low false = omega arith
-
-byte-bit : (b : Bool) → boolByte b ≡ bit b
-byte-bit true = refl
-byte-bit false = refl
+use Rattle.lists.proofs.Keep.{count-append, count-length, count-same, keep-append}
+use Rattle.lists.proofs.Front.{each-tab}
+use Rattle.held.specs.Held.{below, slotHas, heldCount, slotHolds, heldSlot}
 
 module _ (p : ℕ → Bool) where
-  pub count-more : (i : ℕ) → count p (below (i + 1)) ≡ count p (below i) + boolByte (p i)
-  count-more i = rw (add-one i) (omega (arith, byte-bit (p i), count-append p (below i) (i ∷ [])))
+  count-more : (i : ℕ) → count p (below (i + 1)) ≡ count p (below i) + bit (p i)
+  count-more i = rw (add-one i) (omega (arith, count-append p (below i) (i ∷ [])))
+
+  pub count-yes : (i : ℕ) → p i ≡ true → count p (below (i + 1)) ≡ count p (below i) + 1
+  count-yes i e = omega (arith, count-more i, ap bit e)
+
+  pub count-no : (i : ℕ) → p i ≡ false → count p (below (i + 1)) ≡ count p (below i)
+  count-no i e = omega (arith, count-more i, ap bit e)
 
   pub count-few : (n : ℕ) → count p (below n) ≤ n
   count-few n = omega (arith, count-length p (below n), length-tab (λ (i : ℕ). i) n)
@@ -47,3 +47,34 @@ module _ (p : ℕ → Bool) where
 
   pub none-is : (i n : ℕ) → i ≤ n → n ≤ i → keep p (below i) ≡ [] → getD (keep p (below n)) 0 n ≡ n
   none-is i n l m e = rw (rw (le-antisymm l m) at e)
+
+-- ---- two tests that agree below n
+
+pub keep-same : (p q : ℕ → Bool) (is : List ℕ) → Each (λ i. p i ≡ q i) is → keep p is ≡ keep q is
+keep-same p q [] h = refl
+keep-same p q (i ∷ is) h = rw (h .0, keep-same p q is (h .1))
+
+module _ (keys : List ℕ) (keyed : List Bool) (n key : ℕ) where
+  front-has : (i : ℕ) → i < n → slotHas (take n keys) (take n keyed) key i ≡ slotHas keys keyed key i
+  front-has i l = rw (getD-take n keyed i false l, getD-take n keys i 0 l)
+
+  pub front-count : heldCount (take n keys) (take n keyed) n key ≡ heldCount keys keyed n key
+  front-count = count-same _ _ (below n) (each-tab (λ i. slotHas (take n keys) (take n keyed) key i ≡ slotHas keys keyed key i) (λ i. i) n front-has)
+
+  module _ (held : List ℕ) (position : ℕ) where
+    front-holds : (i : ℕ) → i < n → slotHolds (take n keys) (take n keyed) (take n held) key position i ≡ slotHolds keys keyed held key position i
+    front-holds i l = rw (getD-take n keyed i false l, getD-take n keys i 0 l, getD-take n held i 0 l)
+
+    pub front-slot : heldSlot (take n keys) (take n keyed) (take n held) n key position ≡ heldSlot keys keyed held n key position
+    front-slot =
+        ap (λ (is : List ℕ). getD is 0 n)
+        (keep-same _ _ (below n) (each-tab (λ i. slotHolds (take n keys) (take n keyed) (take n held) key position i ≡ slotHolds keys keyed held key position i) (λ i. i) n front-holds))
+
+-- ---- a key that is met, or another
+
+module _ (on : Bool) (word key : ℕ) where
+  pub key-met : word ≡ key → (on && eqb word key) ≡ on
+  key-met e = rw (eq-eqb word key e, and-true on)
+
+  pub key-other : (word ≡ key → ⊥) → (on && eqb word key) ≡ false
+  key-other n = rw (ne-eqb word key n, and-false on)

@@ -22,6 +22,7 @@ use Rattle.index.specs.Sound.{marks}
 use Rattle.index.proofs.Fits.{fitting, fit-sound}
 use Rattle.positions.proofs.Slots.{count-at, once-count}
 use Rattle.held.specs.Held.{below, slotHas, heldCount, slotHolds, heldSlot}
+use Rattle.held.proofs.Scan.{keep-same}
 use Rattle.held.proofs.Live.{tab-in, tab-past, firstIn, live-count, live-first}
 
 -- ---- tests
@@ -60,10 +61,6 @@ module _ (n : ℕ) where
   first-passes : (P : ℕ → Type 0) (is : List ℕ) → Each P is → getD is 0 n < n → P (getD is 0 n)
   first-passes P [] h l = absurd (omega arith)
   first-passes P (i ∷ is) h l = h .0
-
-keep-same : (p q : ℕ → Bool) (is : List ℕ) → Each (λ i. p i ≡ q i) is → keep p is ≡ keep q is
-keep-same p q [] h = refl
-keep-same p q (i ∷ is) h = rw (h .0, keep-same p q is (h .1))
 
 -- ---- marks
 

@@ -29,6 +29,12 @@ pub ready-few : (n w working entries : ℕ) → ready n w working entries ≡ tr
 unfolding ready
 ready-few n w working entries e = leb-true n 65536 (and-left (leb n 65536) ((leb 4 w && leb w 6) && rotatable working entries 4096) e)
 
+pub ready-width : (n w working entries : ℕ) → ready n w working entries ≡ true → (4 ≤ w) × (w ≤ 6)
+unfolding ready
+ready-width n w working entries e =
+    let width = and-left (leb 4 w && leb w 6) (rotatable working entries 4096) (and-right (leb n 65536) ((leb 4 w && leb w 6) && rotatable working entries 4096) e) in
+    (leb-true 4 w (and-left (leb 4 w) (leb w 6) width), leb-true w 6 (and-right (leb 4 w) (leb w 6) width))
+
 pub ready-rotatable : (n w working entries : ℕ) → ready n w working entries ≡ true → rotatable working entries 4096 ≡ true
 unfolding ready
 ready-rotatable n w working entries e =

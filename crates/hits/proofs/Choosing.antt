@@ -21,7 +21,8 @@ use Rattle.held.specs.Held.{below}
 use Rattle.held.proofs.Live.{numbered-tab}
 use Rattle.choose_slots.specs.Slots as Slots
 use Rattle.choose_slots.specs.Slots.{listed}
-use Rattle.hits.specs.Hits.{marked, entered, chosen}
+use Rattle.scan.specs.Scan.{marked}
+use Rattle.hits.specs.Hits.{entered, chosen}
 use Rattle.hits.specs.Steps.{scoreEntry, orderEntry}
 use Rattle.hits.proofs.Entering.{nanAt}
 

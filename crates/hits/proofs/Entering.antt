@@ -8,19 +8,20 @@ use native.Mathlib.Omega.{arith}
 use borrow.Author.Count.{below-more}
 use borrow.Author.Tests.{not-true}
 use lib.Dec.{T}
-use lib.ListN.{length, set}
-use lib.Ieee.{Float, isNan}
+use lib.ListN.{length, drop, getD, set}
+use lib.Ieee.{Float, nan, isNan}
 use Rattle.pattern.specs.Binary32.{+0}
 use Rattle.lists.specs.Lists.{tab, over}
 use Rattle.lists.specs.Keep.{keep, Each}
-use Rattle.lists.proofs.Laws.{over-more}
-use Rattle.lists.proofs.Keep.{keep-none}
-use Rattle.lists.proofs.Front.{each-tab, tab-each}
+use Rattle.lists.proofs.Laws.{over-more, length-tab, tab-ext}
+use Rattle.lists.proofs.Keep.{keep-none, keep-same}
+use Rattle.lists.proofs.Front.{getD-rest, each-tab, tab-each}
 use Rattle.score.specs.Order.{orderNumber}
 use Rattle.index.specs.Step.{any}
 use Rattle.held.specs.Held.{below}
-use Rattle.hits.specs.Hits.{marked, entered}
-use Rattle.hits.specs.Steps.{scoreEntry, orderEntry, anyNan, EntersSlot, EntersSlots}
+use Rattle.scan.specs.Scan.{marked}
+use Rattle.hits.specs.Hits.{entered}
+use Rattle.hits.specs.Steps.{scoreEntry, orderEntry, anyNan, Scores, EntersSlot, EntersSlots}
 
 never : {A : Type 0} → false ≡ true → A
 never e = absurd (subst T (sym e) tt)
@@ -55,10 +56,15 @@ module _ (score : ℕ → Float) (marks : List ℕ) where
     pub enters-nan : marked marks i ≡ true → isNan (score i) ≡ true → Enters false
     enters-nan m t = record { sound = rw (m, t); score-in = never; order-in = never }
 
-    pub enters-score : marked marks i ≡ true → isNan (score i) ≡ false → (x : Float) → x ≡ score i → next ≡ set all i x →
-        (o : ℕ) → o ≡ orderNumber x → after ≡ set orders i o → Enters true
+    pub enters-score : marked marks i ≡ true → isNan (score i) ≡ false → next ≡ set all i (score i) →
+        (o : ℕ) → o ≡ orderNumber (score i) → after ≡ set orders i o → Enters true
     unfolding scoreEntry orderEntry
-    enters-score m t x e f o g h = record { sound = rw (m, t); score-in = λ _. rw (m, ← e) f; order-in = λ _. rw (m, ← e, ← g) h }
+    enters-score m t f o g h = record { sound = rw (m, t); score-in = λ _. rw m f; order-in = λ _. rw (m, ← g) h }
+
+    -- only the score of slot i counts
+    pub enters-like : (other : ℕ → Float) → other i ≡ score i → (r : Bool) → EntersSlot other marks i all next orders after r → Enters r
+    unfolding scoreEntry orderEntry
+    enters-like other e r h = record { sound = rw (← e) (h .sound); score-in = λ t. rw (← e) (h .score-in t); order-in = λ t. rw (← e) (h .order-in t) }
 
   -- ---- the slots below n
 
@@ -96,6 +102,12 @@ module _ (score : ℕ → Float) (marks : List ℕ) where
   begun-none all orders = record { none = λ j l. absurd (omega arith); scores = refl; numbers = refl }
 
   module _ {all₀ all : List Float} {orders₀ orders : List ℕ} {i : ℕ} (b : Begun all₀ orders₀ all orders i) where
+    -- the place of slot i is still as it was
+    pub begun-here : getD all i nan ≡ getD all₀ i nan
+    begun-here =
+        ap (λ (l : List Float). getD l i nan) (b .scores)
+        ∙ getD-rest (tab (scoreEntry score marks) i) all₀ i nan (omega (arith, length-tab (scoreEntry score marks) i))
+
     pub begun-more : {next : List Float} {after : List ℕ} {r : Bool} → i < length all₀ → i < length orders₀ →
         EntersSlot score marks i all next orders after r → r ≡ true → Begun all₀ orders₀ next after (i + 1)
     begun-more h k e t =
@@ -121,3 +133,44 @@ module _ (score : ℕ → Float) (marks : List ℕ) where
         go : (is : List ℕ) → keep nanAt (below n) ≡ is → someOf is ≡ true
         go [] e = never (sym (tab-each (λ j. nanAt j ≡ false) (λ j. j) n (none-each nanAt (below n) e) i l) ∙ t)
         go (j ∷ is) e = refl
+
+-- ---- by scores that stand in the array
+
+module _ (score : ℕ → Float) (marks : List ℕ) (n : ℕ) (all mid next : List Float) (orders after : List ℕ) (r : Bool) (s : Scores score marks n all mid) where
+  abbrev read : ℕ → Float
+  read i = getD mid i nan
+
+  entry-like : (i : ℕ) → i < n → scoreEntry read marks i ≡ scoreEntry score marks i
+  unfolding scoreEntry
+  entry-like i l = go (marked marks i) refl
+    where
+      go : (b : Bool) → marked marks i ≡ b → cond b (read i) +0 ≡ cond b (score i) +0
+      go true m = s .there i l m
+      go false m = refl
+
+  order-like : (i : ℕ) → i < n → orderEntry read marks i ≡ orderEntry score marks i
+  unfolding orderEntry
+  order-like i l = go (marked marks i) refl
+    where
+      go : (b : Bool) → marked marks i ≡ b → cond b (orderNumber (read i)) 0 ≡ cond b (orderNumber (score i)) 0
+      go true m = ap orderNumber (s .there i l m)
+      go false m = refl
+
+  nan-like : (i : ℕ) → i < n → nanAt read marks i ≡ nanAt score marks i
+  nan-like i l = go (marked marks i) refl
+    where
+      go : (b : Bool) → marked marks i ≡ b → (b && isNan (read i)) ≡ (b && isNan (score i))
+      go true m = ap isNan (s .there i l m)
+      go false m = refl
+
+  over-like : (f g : ℕ → Float) → ((i : ℕ) → i < n → f i ≡ g i) → over (tab f n) mid ≡ over (tab g n) all
+  unfolding over
+  over-like f g e = rw (tab-ext f g n e, length-tab g n, s .rest)
+
+  pub entered-scores : EntersSlots read marks n mid next orders after r → EntersSlots score marks n all next orders after r
+  entered-scores e =
+      record {
+        sound = e .sound ∙ ap not (any-nan read marks n ∙ ap someOf (keep-same (nanAt read marks) (nanAt score marks) (below n) (each-tab _ (λ i. i) n nan-like)) ∙ sym (any-nan score marks n));
+        scores-in = λ t. e .scores-in t ∙ over-like (scoreEntry read marks) (scoreEntry score marks) entry-like;
+        orders-in = λ t. e .orders-in t ∙ ap (λ (l : List ℕ). over l orders) (tab-ext _ _ n order-like);
+      }

@@ -1,5 +1,5 @@
 -- Where the chosen slots and their scores are written.
-use mathlib.Core.Path.{_≡_, refl, ap, _∙_}
+use mathlib.Core.Path.{_≡_, ap, _∙_}
 use mathlib.Core.Bool.{Bool, true, false, cond, _&&_}
 use mathlib.Core.List.{List, [], _++_, map, append-assoc}
 use Prim.Native.Nat.{ℕ, _-_, min, _≤_, _<_}
@@ -9,7 +9,6 @@ use lib.Dec.{leb}
 use lib.Ieee.{Float}
 use lib.ListN.{length, take, drop, getD, take-append-drop}
 use lib.Seq.{length-take-le, take-append-seam, drop-append-le}
-use borrow.Author.Tests.{leb-true}
 use Rattle.pattern.specs.Binary32.{+0}
 use Rattle.lists.specs.Lists.{tab, over}
 use Rattle.lists.specs.Keep.{numbered, Each}
@@ -19,7 +18,7 @@ use Rattle.lists.proofs.Front.{each-map}
 use Rattle.choose.specs.Choose.{choose}
 use Rattle.choose.proofs.Choice.{choose-each}
 use Rattle.choose_slots.specs.Slots.{entered, listed, answered}
-use Rattle.index.proofs.Marks.{and-right}
+use Rattle.choose_slots.proofs.Listed.{answered-few}
 use Rattle.hits.specs.Steps.{WritesHits}
 
 -- ---- what is written over a part
@@ -63,14 +62,6 @@ module _ (orders : List ℕ) (k : ℕ) where
         go : (b : Bool) → Each (λ i. i < length orders) (cond b (listed orders k) [])
         go true = listed-each
         go false = tt
-
-    pub answered-few : length (answered orders k places) ≤ length places
-    unfolding answered
-    answered-few = go (leb (length orders) 65536 && leb (length (listed orders k)) (length places)) refl
-      where
-        go : (b : Bool) → (leb (length orders) 65536 && leb (length (listed orders k)) (length places)) ≡ b → length (cond b (listed orders k) []) ≤ length places
-        go true e = leb-true (length (listed orders k)) (length places) (and-right (leb (length orders) 65536) (leb (length (listed orders k)) (length places)) e)
-        go false e = omega arith
 
 -- ---- the two slices
 

@@ -2,8 +2,8 @@
 use mathlib.Core.Bool.{Bool, not, cond, _&&_}
 use mathlib.Core.List.{List, [], _∷_, map}
 use Prim.Native.Nat.{ℕ}
-use lib.ListN.{length, getD}
-use lib.Dec.{leb, ltb, eqb}
+use lib.ListN.{length}
+use lib.Dec.{leb, eqb}
 use lib.Ieee.{Float, isNan}
 use Rattle.lists.specs.Keep.{keep}
 use Rattle.choose.specs.Choose.{choose}
@@ -16,15 +16,12 @@ use Rattle.index.specs.declared.Found.{Found}
 use Rattle.index.specs.declared.Found.the-variants as Found
 use Rattle.index.specs.State.{stageAt}
 use Rattle.index.specs.Codec.{scoreOf}
+use Rattle.scan.specs.Scan.{marked}
 use Rattle.index.specs.Step.{firstOf, when, any}
 
 -- the score of each slot by the arrays of codes and scales
 unfoldable pub scoreAt : Header → (codes scales codes2 scales2 : List ℕ) → (query : List Float) → ℕ → Float
 scoreAt h codes scales codes2 scales2 q i = scoreOf h q (codeIn (h .residual) (stageAt h scales codes i) (stageAt h scales2 codes2 i))
-
--- a mark other than 0 says that the slot takes part
-abbrev pub marked : List ℕ → ℕ → Bool
-marked marks i = ltb 0 (getD marks i 0)
 
 module _ (score : ℕ → Float) (marks : List ℕ) (n : ℕ) where
   -- number and score of the slots that take part, in slot order

@@ -3,9 +3,9 @@ use mathlib.Core.Path.{_≡_}
 use mathlib.Core.Bool.{Bool, true, not, cond, _&&_}
 use mathlib.Core.List.{List, map}
 use mathlib.Core.Option.{none, some}
-use Prim.Native.Nat.{ℕ, min}
-use lib.ListN.{length, take, getD, set}
-use lib.Ieee.{Float, isNan}
+use Prim.Native.Nat.{ℕ, min, _<_}
+use lib.ListN.{length, take, drop, getD, set}
+use lib.Ieee.{Float, nan, isNan}
 use Rattle.pattern.specs.Binary32.{+0}
 use Rattle.lists.specs.Lists.{tab, over}
 use Rattle.encode.specs.declared.Header.{Header}
@@ -15,7 +15,8 @@ use Rattle.choose_slots.specs.Slots.{answered}
 use Rattle.index.specs.declared.Found.{Found}
 use Rattle.index.specs.State.{stageAt}
 use Rattle.index.specs.Step.{any}
-use Rattle.hits.specs.Hits.{marked, entered, shown, listAnswer}
+use Rattle.scan.specs.Scan.{marked}
+use Rattle.hits.specs.Hits.{entered, shown, listAnswer}
 
 -- the score of each slot under a prepared query, by a table of centroids
 unfoldable pub scorePrepared : Header → (codes scales codes2 scales2 : List ℕ) → (centroids prepared : List Float) → ℕ → Float
@@ -33,6 +34,12 @@ module _ (score : ℕ → Float) (marks : List ℕ) where
   -- of the slots below n that take part, one has a NaN for its score
   unfoldable pub anyNan : (n : ℕ) → Bool
   anyNan n = any (λ e. isNan (e .1)) (entered score marks n)
+
+  -- The scores of the marked slots below n are in their places; the places from n on are as they were.
+  pub record Scores (n : ℕ) (all next : List Float) : Type 0 where
+    pub same : length next ≡ length all
+    pub there : (i : ℕ) → i < n → marked marks i ≡ true → getD next i nan ≡ score i
+    pub rest : drop n next ≡ drop n all
 
   -- What entering slot i does: `r` says that it does not take part with a NaN, and where that is so its entries are written.
   pub record EntersSlot (i : ℕ) (all next : List Float) (orders after : List ℕ) (r : Bool) : Type 0 where

@@ -5,17 +5,18 @@ ghost use mathlib.Core.Path.{_≡_};
 ghost use mathlib.Core.Bool.{true};
 ghost use mathlib.Core.List.{map};
 ghost use Prim.Native.Nat.{_≤_, _<_, min};
+ghost use lib.Ieee.{nan};
 ghost use lib.ListN.{length, getD};
 ghost use Rattle.pattern.specs.Binary32.{+0};
 ghost use Rattle.lists.specs.Lists.{over};
 ghost use Rattle.lists.specs.Keep.{Each};
 ghost use Rattle.unit.specs.Calls.{rotatable};
 ghost use Rattle.index.specs.State.{headerOf};
-ghost use Rattle.hits.specs.Hits.{scoreAt, marked, listAnswer, shown, ready};
-ghost use Rattle.hits.specs.Steps.{scorePrepared, EntersSlot, EntersSlots, WritesHits, Lists};
+ghost use Rattle.scan.specs.Scan.{marked};
+ghost use Rattle.hits.specs.Hits.{scoreAt, listAnswer, shown, ready};
+ghost use Rattle.hits.specs.Steps.{scorePrepared, Scores, EntersSlot, EntersSlots, WritesHits, Lists};
 use index::Found;
 use index::Index;
-use score::Scored;
 
 // ---- whether the call can be made
 
@@ -49,6 +50,14 @@ fn slot_words() -> [u32; 65536] {
     [0; 65536]
 }
 
+fn few_floats() -> [f32; 1024] {
+    [0.0; 1024]
+}
+
+fn few_words() -> [u32; 1024] {
+    [0; 1024]
+}
+
 // A slot past the end of the marks takes no part.
 fn is_marked(marks: &[u8], slot: usize) -> bool
     ensures { λ r. ⌜ r ≡ marked (now (marks .entry)) slot ⌝ }
@@ -59,50 +68,91 @@ fn is_marked(marks: &[u8], slot: usize) -> bool
     false
 }
 
-// Enters a slot into the working arrays. False where it takes part and its score is NaN.
-fn enter_slot(
+// The scores of the marked slots below n under a prepared query, each in its slot's place.
+fn score_slots(
     index: Index,
     codes: &[u8],
     scales: &[u32],
     codes2: &[u8],
     scales2: &[u32],
     marks: &[u8],
-    slot: usize,
+    n: usize,
     centroids: &[f32],
     prepared: &[f32],
     all: &mut [f32],
-    orders: &mut [u32],
-) -> bool
+)
+    requires { ⌜ (4 ≤ index .bits) × (index .bits ≤ 6) × (n ≤ length (now all)) ⌝ }
+    ensures { λ _. ⌜
+        Scores (scorePrepared (headerOf index) (now (codes .entry)) (now (scales .entry)) (now (codes2 .entry)) (now (scales2 .entry))
+        (now (centroids .entry)) (now (prepared .entry)))
+        (now (marks .entry)) n (now (all .entry)) (now (all .exit)) ⌝ }
+{
+    let bits = index.bits;
+    let size = codes::bytes_per_vector(rhdh::padded_dim(index.working_dim), bits);
+    scan::stage_scores(
+        bits,
+        centroids,
+        prepared,
+        size,
+        codes,
+        scales,
+        marks,
+        n,
+        false,
+        all,
+    );
+    if index.residual {
+        scan::stage_scores(
+            bits,
+            centroids,
+            prepared,
+            size,
+            codes2,
+            scales2,
+            marks,
+            n,
+            true,
+            all,
+        );
+    }
+}
+
+// Enters a slot, whose score is there if it takes part, into the working arrays. False where it takes part and its score is NaN.
+fn enter_slot(marks: &[u8], slot: usize, all: &mut [f32], orders: &mut [u32]) -> bool
     requires { ⌜ (slot < length (now all)) × (slot < length (now orders)) ⌝ }
     ensures { λ r. ⌜
-        EntersSlot (scorePrepared (headerOf index) (now (codes .entry)) (now (scales .entry)) (now (codes2 .entry)) (now (scales2 .entry))
-        (now (centroids .entry)) (now (prepared .entry)))
-        (now (marks .entry)) slot (now (all .entry)) (now (all .exit)) (now (orders .entry)) (now (orders .exit)) r ⌝ }
+        EntersSlot (λ i. getD (now (all .entry)) i nan) (now (marks .entry)) slot (now (all .entry)) (now (all .exit)) (now (orders .entry)) (now (orders .exit)) r ⌝ }
 {
     if !is_marked(marks, slot) {
         all[slot] = 0.0;
         orders[slot] = 0;
         return true;
     }
-    let scored = score_slot::score_prepared(
-        index,
-        codes,
-        scales,
-        codes2,
-        scales2,
-        slot,
-        centroids,
-        prepared,
-    );
-    let Scored::Score(score) = scored else {
+    let score = all[slot];
+    if score != score {
         return false;
-    };
-    all[slot] = score;
+    }
     orders[slot] = score::order_number(score);
     true
 }
 
-// Enters the slots below n under a prepared query. False, at the first NaN, where one of them that takes part has a NaN for its score.
+// Enters the slots below n, whose scores are there. False, at the first NaN, where one of them that takes part has a NaN for its score.
+fn enter_orders(marks: &[u8], n: usize, all: &mut [f32], orders: &mut [u32]) -> bool
+    requires { ⌜ (n ≤ length (now all)) × (n ≤ length (now orders)) ⌝ }
+    ensures { λ r. ⌜
+        EntersSlots (λ i. getD (now (all .entry)) i nan) (now (marks .entry)) n (now (all .entry)) (now (all .exit)) (now (orders .entry)) (now (orders .exit)) r ⌝ }
+{
+    let mut i = 0;
+    while i < n {
+        if !enter_slot(marks, i, all, orders) {
+            return false;
+        }
+        i += 1;
+    }
+    true
+}
+
+// Enters the slots below n under a prepared query.
 fn enter_slots(
     index: Index,
     codes: &[u8],
@@ -116,32 +166,25 @@ fn enter_slots(
     all: &mut [f32],
     orders: &mut [u32],
 ) -> bool
-    requires { ⌜ (n ≤ length (now all)) × (n ≤ length (now orders)) ⌝ }
+    requires { ⌜ (4 ≤ index .bits) × (index .bits ≤ 6) × (n ≤ length (now all)) × (n ≤ length (now orders)) ⌝ }
     ensures { λ r. ⌜
         EntersSlots (scorePrepared (headerOf index) (now (codes .entry)) (now (scales .entry)) (now (codes2 .entry)) (now (scales2 .entry))
         (now (centroids .entry)) (now (prepared .entry)))
         (now (marks .entry)) n (now (all .entry)) (now (all .exit)) (now (orders .entry)) (now (orders .exit)) r ⌝ }
 {
-    let mut i = 0;
-    while i < n {
-        if !enter_slot(
-            index,
-            codes,
-            scales,
-            codes2,
-            scales2,
-            marks,
-            i,
-            centroids,
-            prepared,
-            all,
-            orders,
-        ) {
-            return false;
-        }
-        i += 1;
-    }
-    true
+    score_slots(
+        index,
+        codes,
+        scales,
+        codes2,
+        scales2,
+        marks,
+        n,
+        centroids,
+        prepared,
+        all,
+    );
+    enter_orders(marks, n, all, orders)
 }
 
 // Enters the slots in use under a query.
@@ -156,7 +199,7 @@ fn enter_all(
     all: &mut [f32],
     orders: &mut [u32],
 ) -> bool
-    requires { ⌜ (index .n ≤ length (now all)) × (index .n ≤ length (now orders)) ⌝ }
+    requires { ⌜ (4 ≤ index .bits) × (index .bits ≤ 6) × (index .n ≤ length (now all)) × (index .n ≤ length (now orders)) ⌝ }
     requires { ⌜ rotatable (index .«working_dim») (length (now query)) 4096 ≡ true ⌝ }
     ensures { λ r. ⌜
         EntersSlots (scoreAt (headerOf index) (now (codes .entry)) (now (scales .entry)) (now (codes2 .entry)) (now (scales2 .entry)) (now (query .entry)))
@@ -215,13 +258,87 @@ fn write_hits(all: &[f32], orders: &[u32], k: usize, slots: &mut [u32], scores: 
         WritesHits (now (all .entry)) (now (orders .entry)) k (now (slots .entry)) (now (slots .exit)) (now (scores .entry)) (now (scores .exit)) r ⌝ }
 {
     let places = fewer(slots.len(), scores.len());
-    let n = choose_slots::choose(orders, k, &mut slots[0..places]);
+    let n = shortlist::choose(orders, k, &mut slots[0..places]);
     write_scores(all, &slots[0..n], scores);
     n
 }
 
-// The call where it can be made.
-fn list_ready(
+// The call where it can be made, in working arrays that have room for the slots.
+fn list_in(
+    index: Index,
+    codes: &[u8],
+    scales: &[u32],
+    codes2: &[u8],
+    scales2: &[u32],
+    marks: &[u8],
+    query: &[f32],
+    k: usize,
+    slots: &mut [u32],
+    scores: &mut [f32],
+    all: &mut [f32],
+    orders: &mut [u32],
+) -> Found
+    requires { ⌜ ready (index .n) (index .bits) (index .«working_dim») (length (now query)) ≡ true ⌝ }
+    requires { ⌜ (index .n ≤ length (now all)) × (index .n ≤ length (now orders)) ⌝ }
+    ensures { λ r. ⌜
+        Lists (scoreAt (headerOf index) (now (codes .entry)) (now (scales .entry)) (now (codes2 .entry)) (now (scales2 .entry)) (now (query .entry)))
+        (now (marks .entry)) (index .n) k (now (slots .entry)) (now (slots .exit)) (now (scores .entry)) (now (scores .exit)) r ⌝ }
+{
+    let n = index.n;
+    if !enter_all(
+        index,
+        codes,
+        scales,
+        codes2,
+        scales2,
+        marks,
+        query,
+        all,
+        orders,
+    ) {
+        return Found::Refused(12);
+    }
+    let hits = write_hits(&all[0..n], &orders[0..n], k, slots, scores);
+    Found::Hits(hits)
+}
+
+// Of at most 1,024 slots: clearing working arrays for 65,536 would take longer than the search.
+fn list_few(
+    index: Index,
+    codes: &[u8],
+    scales: &[u32],
+    codes2: &[u8],
+    scales2: &[u32],
+    marks: &[u8],
+    query: &[f32],
+    k: usize,
+    slots: &mut [u32],
+    scores: &mut [f32],
+) -> Found
+    requires { ⌜ (ready (index .n) (index .bits) (index .«working_dim») (length (now query)) ≡ true) × (index .n ≤ 1024) ⌝ }
+    ensures { λ r. ⌜
+        Lists (scoreAt (headerOf index) (now (codes .entry)) (now (scales .entry)) (now (codes2 .entry)) (now (scales2 .entry)) (now (query .entry)))
+        (now (marks .entry)) (index .n) k (now (slots .entry)) (now (slots .exit)) (now (scores .entry)) (now (scores .exit)) r ⌝ }
+{
+    let mut all = few_floats();
+    let mut orders = few_words();
+    list_in(
+        index,
+        codes,
+        scales,
+        codes2,
+        scales2,
+        marks,
+        query,
+        k,
+        slots,
+        scores,
+        &mut all,
+        &mut orders,
+    )
+}
+
+fn list_many(
     index: Index,
     codes: &[u8],
     scales: &[u32],
@@ -238,10 +355,9 @@ fn list_ready(
         Lists (scoreAt (headerOf index) (now (codes .entry)) (now (scales .entry)) (now (codes2 .entry)) (now (scales2 .entry)) (now (query .entry)))
         (now (marks .entry)) (index .n) k (now (slots .entry)) (now (slots .exit)) (now (scores .entry)) (now (scores .exit)) r ⌝ }
 {
-    let n = index.n;
     let mut all = slot_floats();
     let mut orders = slot_words();
-    if !enter_all(
+    list_in(
         index,
         codes,
         scales,
@@ -249,13 +365,12 @@ fn list_ready(
         scales2,
         marks,
         query,
+        k,
+        slots,
+        scores,
         &mut all,
         &mut orders,
-    ) {
-        return Found::Refused(12);
-    }
-    let hits = write_hits(&all[0..n], &orders[0..n], k, slots, scores);
-    Found::Hits(hits)
+    )
 }
 
 // The hits of the marked slots in the first places of `slots` and `scores`, or the number of the refusal.
@@ -289,7 +404,21 @@ pub fn list(
     if !is_ready(index, query.len()) {
         return Found::Refused(13);
     }
-    list_ready(
+    if index.n <= 1024 {
+        return list_few(
+            index,
+            codes,
+            scales,
+            codes2,
+            scales2,
+            marks,
+            query,
+            k,
+            slots,
+            scores,
+        );
+    }
+    list_many(
         index,
         codes,
         scales,

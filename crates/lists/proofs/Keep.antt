@@ -76,6 +76,10 @@ module _ {X : Type 0} where
       go true ih = rw ih
       go false ih = ih
 
+  pub keep-same : (p q : X → Bool) (xs : List X) → Each (λ x. p x ≡ q x) xs → keep p xs ≡ keep q xs
+  keep-same p q [] h = refl
+  keep-same p q (x ∷ xs) h = rw (h .0, keep-same p q xs (h .1))
+
   pub keep-all : (p : X → Bool) (xs : List X) → Each (λ x. p x ≡ true) xs → keep p xs ≡ xs
   keep-all p [] h = refl
   keep-all p (x ∷ xs) h = rw (h .0, keep-all p xs (h .1))

@@ -3,3 +3,4 @@ pub mod Sound
 pub mod Widths
 pub mod Quantized
 pub mod Places
+pub mod Summing

@@ -11,7 +11,7 @@ use lib.Seq.{getD-drop}
 use lib.Ieee.{Float, nan, lt}
 use Rattle.lloyd.specs.Sound.{allBelow, conditions, every, sound, Rises, Sound}
 
-both : (a b : Bool) → T (a && b) → T a × T b
+pub both : (a b : Bool) → T (a && b) → T a × T b
 both true b t = (tt, t)
 both false b t = absurd t
 

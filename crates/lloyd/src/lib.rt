@@ -10,12 +10,13 @@ use tables::CENTROIDS_6BIT;
 ghost use mathlib.Core.Path.{_≡_};
 ghost use mathlib.Core.List.{[], map};
 ghost use mathlib.Core.Bool.{cond, true};
-ghost use Prim.Native.Nat.{_≤_};
+ghost use Prim.Native.Nat.{ℕ, _≤_};
 ghost use lib.ListN.{length};
 ghost use lib.Ieee.{lt};
 ghost use Rattle.lists.specs.Lists.{over};
+ghost use Rattle.pattern.specs.Binary32.{_⊗_};
 ghost use Rattle.lloyd.specs.Tables.{byWidth, levelsOf, centroidsOf, boundariesOf, zeros64, padded};
-ghost use Rattle.lloyd.specs.Quantizer.{quantized, centroidAt, coded};
+ghost use Rattle.lloyd.specs.Quantizer.{quantized, centroidAt, codable, coded, codedSquares, sumAt};
 ghost use Rattle.lloyd.specs.Sound.{Rises};
 
 // How many levels a width has. Any other width than these three has none.
@@ -176,41 +177,106 @@ fn rises(table: &[f32]) -> bool
     true
 }
 
-// The code of x by halving where the boundaries are known to rise, else by counting.
-fn code_of(rising: bool, boundaries: &[f32], x: f32) -> usize
+// The code of x by halving where the n boundaries are known to rise, else by counting.
+fn code_of(rising: bool, boundaries: &[f32], x: f32, n: usize) -> usize
     requires { ⌜ (rising ≡ true → Rises (now boundaries)) ⌝ }
+    requires { ⌜ n ≡ length (now boundaries) ⌝ }
     ensures { λ r. ⌜ r ≡ quantized (now (boundaries .entry)) x ⌝ }
 {
     if rising {
-        return halving(boundaries, x);
+        return halving_from(boundaries, x, n);
     }
     quantize_in(boundaries, x)
 }
 
-// The code of each value in its place.
-fn write_codes(rising: bool, boundaries: &[f32], xs: &[f32], codes: &mut [u8])
-    requires { ⌜ (rising ≡ true → Rises (now boundaries)) ⌝ }
-    requires { ⌜ length (now boundaries) ≤ 255 ⌝ }
-    requires { ⌜ length (now xs) ≤ length (now codes) ⌝ }
-    ensures { λ _. ⌜ now (codes .exit) ≡ over (map (quantized (now (boundaries .entry))) (now (xs .entry))) (now (codes .entry)) ⌝ }
+// Whether each code over so many boundaries fits a byte, and there is a place for each value.
+fn is_codable(boundaries: usize, values: usize, places: usize) -> bool
+    ensures { λ r. ⌜ r ≡ codable boundaries values places ⌝ }
 {
+    if 255 < boundaries {
+        return false;
+    }
+    values <= places
+}
+
+// A working array, with a place for each code. Its contents don't matter.
+fn empty_table() -> [f32; 256] {
+    [0.0; 256]
+}
+
+// The squares of the centroids of the codes from 0 to n.
+fn squares(centroids: &[f32], n: usize) -> [f32; 256]
+    requires { ⌜ n ≤ 255 ⌝ }
+    ensures { λ r. ⌜ ((k : ℕ) → k ≤ n → centroidAt r k ≡ centroidAt (now (centroids .entry)) k ⊗ centroidAt (now (centroids .entry)) k) ⌝ }
+{
+    let mut table = empty_table();
+    let mut code = 0;
+    while code <= n {
+        let c = dequantize_in(centroids, code);
+        table[code] = c * c;
+        code += 1;
+    }
+    table
+}
+
+// The code of each value in its place, over n boundaries. The result is the sum, in index order, of the entries that a table has for the codes: each
+// addition waits for the one before it, and the next codes are found meanwhile.
+fn write_codes(
+    rising: bool,
+    boundaries: &[f32],
+    table: &[f32],
+    xs: &[f32],
+    codes: &mut [u8],
+    n: usize,
+) -> f32
+    requires { ⌜ (rising ≡ true → Rises (now boundaries)) ⌝ }
+    requires { ⌜ n ≡ length (now boundaries) ⌝ }
+    requires { ⌜ (length (now boundaries) ≤ 255) × (length (now table) ≡ 256) × (length (now xs) ≤ length (now codes)) ⌝ }
+    ensures sum { λ r. ⌜ r ≡ sumAt (now (table .entry)) (now (boundaries .entry)) (now (xs .entry)) ⌝ }
+    ensures codes { λ _. ⌜ now (codes .exit) ≡ over (map (quantized (now (boundaries .entry))) (now (xs .entry))) (now (codes .entry)) ⌝ }
+{
+    let mut sum = 0.0f32;
     let mut i = 0;
     while i < xs.len() {
-        codes[i] = code_of(rising, boundaries, xs[i]) as u8;
+        let code = code_of(rising, boundaries, xs[i], n);
+        codes[i] = code as u8;
+        sum = sum + table[code];
         i += 1;
+    }
+    sum
+}
+
+// The same. The three widths' counts are written out, so that the compiler knows how many turns a halving has.
+fn write_all(rising: bool, boundaries: &[f32], table: &[f32], xs: &[f32], codes: &mut [u8]) -> f32
+    requires { ⌜ (rising ≡ true → Rises (now boundaries)) ⌝ }
+    requires { ⌜ (length (now boundaries) ≤ 255) × (length (now table) ≡ 256) × (length (now xs) ≤ length (now codes)) ⌝ }
+    ensures sum { λ r. ⌜ r ≡ sumAt (now (table .entry)) (now (boundaries .entry)) (now (xs .entry)) ⌝ }
+    ensures codes { λ _. ⌜ now (codes .exit) ≡ over (map (quantized (now (boundaries .entry))) (now (xs .entry))) (now (codes .entry)) ⌝ }
+{
+    match boundaries.len() {
+        15 => write_codes(rising, boundaries, table, xs, codes, 15),
+        31 => write_codes(rising, boundaries, table, xs, codes, 31),
+        63 => write_codes(rising, boundaries, table, xs, codes, 63),
+        n => write_codes(rising, boundaries, table, xs, codes, n),
     }
 }
 
-// The codes of many values over one table, into the first places of `codes`. Whether the table rises is tested once, for all of them.
-// Where a code might not fit a byte, or `codes` is too short, nothing is written.
+// The codes of many values over one table, into the first places of `codes`, and the sum of the squares of their centroids. Whether the table rises is
+// tested once, for all of them. Where a code might not fit a byte, or `codes` is too short, nothing is written.
+pub fn quantize_summing(boundaries: &[f32], centroids: &[f32], xs: &[f32], codes: &mut [u8]) -> f32
+    ensures sum { λ r. ⌜ r ≡ codedSquares (now (boundaries .entry)) (now (centroids .entry)) (now (xs .entry)) (now (codes .entry)) ⌝ }
+    ensures codes { λ _. ⌜ now (codes .exit) ≡ coded (now (boundaries .entry)) (now (xs .entry)) (now (codes .entry)) ⌝ }
+{
+    if !is_codable(boundaries.len(), xs.len(), codes.len()) {
+        return 0.0;
+    }
+    let squares = squares(centroids, boundaries.len());
+    write_all(rises(boundaries), boundaries, &squares, xs, codes)
+}
+
+// The same without the sum, for which any table will do.
 pub fn quantize_all(boundaries: &[f32], xs: &[f32], codes: &mut [u8])
     ensures { λ _. ⌜ now (codes .exit) ≡ coded (now (boundaries .entry)) (now (xs .entry)) (now (codes .entry)) ⌝ }
 {
-    if 255 < boundaries.len() {
-        return;
-    }
-    if codes.len() < xs.len() {
-        return;
-    }
-    write_codes(rises(boundaries), boundaries, xs, codes);
+    quantize_summing(boundaries, boundaries, xs, codes);
 }

@@ -1,7 +1,6 @@
--- Laws of positions, by row and by slot number, and of the program's two ways to test them.
-pub mod Decides
+-- Laws of positions, by row and by slot number, and of the pass that shows them to be in order.
 pub mod Tests
 pub mod Consecutive
 pub mod Slots
-mod Tree
+mod Firsts
 mod Rising

@@ -6,8 +6,9 @@ use Prim.Native.Nat.{ℕ, suc, _≤_, _<_}
 use native.Mathlib.Nat.{suc-inj, eq-or-lt-of-le, le-of-suc-le-suc}
 use native.Mathlib.Omega.{arith}
 use lib.ListN.{getD}
-use Rattle.positions.specs.Positions.{Keys, Holds, New, Preceded, Ordered, Follows, first, greater, again, Rising}
-use Rattle.positions.proofs.Tree.{loose-new}
+use Rattle.position_tree.specs.Ordered.{Keys, Holds, New, Preceded, Ordered}
+use Rattle.position_tree.proofs.Order.{loose-new}
+use Rattle.positions.specs.Positions.{Follows, first, greater, again, Rising}
 
 -- ---- one slot
 

@@ -9,14 +9,14 @@ use native.Mathlib.Omega.{arith}
 use borrow.Author.Tests.{leb-true, le-leb}
 use Rattle.lists.specs.Lists.{tab}
 use Rattle.lists.specs.Keep.{bit, count}
-use Rattle.lists.proofs.Laws.{length-tab}
-use Rattle.lists.proofs.Keep.{count-append, count-length}
-use Rattle.index.specs.Fit.{Row, all, ofKey, ofKeyAt, positioned}
-use Rattle.positions.specs.Decides.{Decides}
-use Rattle.positions.specs.Positions.{Keys, hasRoom, rowOf, rowsOf, positionsFit, Room, Holds, Ordered}
-use Rattle.positions.proofs.Decides.{decided, decides-true}
+use Rattle.lists.proofs.Keep.{count-append}
+use Rattle.index.specs.Fit.{Row, all, ofKeyAt, positioned}
+use Rattle.position_tree.specs.Decides.{Decides}
+use Rattle.position_tree.specs.Ordered.{Keys, Room, Holds, Ordered}
+use Rattle.positions.specs.Positions.{hasRoom, rowOf, rowsOf, positionsFit}
+use Rattle.position_tree.proofs.Decides.{decided, decides-true}
 use Rattle.positions.proofs.Tests.{both, left, right, each, nothing, also, all-mem, mem-all}
-use Rattle.positions.proofs.Consecutive.{Consecutive, ofKeyAt-parts, ofKeyAt-made, low, consecutive}
+use Rattle.positions.proofs.Consecutive.{Consecutive, ofKeyAt-parts, ofKeyAt-made, consecutive}
 
 module _ {X : Type 0} (f : ℕ → X) where
   pub mem-tab : (n : ℕ) {x : X} → List·Memᴰ x (tab f n) → (i : ℕ) × (i < n) × (x ≡ f i)
@@ -161,10 +161,3 @@ module _ (a : Keys) (n : ℕ) where
       decided (positionsFit a n)
       (λ e. (room-from (left (hasRoom a n) (all (positioned rs) rs) e), d .yes (right (hasRoom a n) (all (positioned rs) rs) e)))
       (λ p. both (hasRoom a n) (all (positioned rs) rs) (room-to (p .0)) (decides-true d (p .1)))
-
--- a position is lower than the number of slots
-pub position-low : (a : Keys) (n k p j : ℕ) → Ordered a n → j < n → Holds a k p j → p < n
-position-low a n k p j o l h =
-    let marks : ℕ → ℕ = λ i. 0 in
-    let rs = rowsOf a marks n in
-    omega (arith, low rs (ordered-next a marks n o) k p (count-at (ofKeyAt k p) (rowOf a marks) n j l (row-ofKeyAt a marks k p j h)), count-length (ofKey k) rs, length-tab (rowOf a marks) n)

@@ -2,23 +2,14 @@
 use mathlib.Core.Path.{_≡_}
 use mathlib.Core.Bool.{Bool, true, false, _&&_}
 use mathlib.Core.List.{List, [], _∷_}
-use Prim.Native.Nat.{ℕ, suc, _≤_, _<_}
+use Prim.Native.Nat.{ℕ, suc, _<_}
 use lib.ListN.{length, getD}
 use lib.Dec.{leb}
-use denote.Ref.{RefT, now}
 use Rattle.lists.specs.Lists.{tab}
 use Rattle.index.specs.Fit.{every, all, Row, positioned}
+use Rattle.position_tree.specs.Ordered.{Keys}
 
--- the lent arrays of keys
-pub record Keys : Type 0 where
-  pub keys : List ℕ
-  pub keyed : List Bool
-  pub held : List ℕ
-
-abbrev pub lentKeys : RefT (List ℕ) → RefT (List Bool) → RefT (List ℕ) → Keys
-lentKeys a b c = record { keys = now a; keyed = now b; held = now c }
-
--- they have the first n slots, and these are no more than an index may have
+-- the arrays have the first n slots, and these are no more than an index may have (`Room`)
 unfoldable pub hasRoom : Keys → ℕ → Bool
 hasRoom a n = every (leb n 65536 ∷ leb n (length (a .keys)) ∷ leb n (length (a .keyed)) ∷ leb n (length (a .held)) ∷ [])
 
@@ -33,35 +24,7 @@ rowsOf a marks n = tab (rowOf a marks) n
 unfoldable pub positionsFit : Keys → ℕ → Bool
 positionsFit a n = hasRoom a n && all (positioned (rowsOf a (λ i. 0) n)) (rowsOf a (λ i. 0) n)
 
--- ---- The same by slot number, as the program tests it (law `rows-ordered` of proofs/Slots.antt): no slot holds what an earlier one holds, and where a slot holds a
--- position above 0, some slot of its key holds the one before.
-
-module _ (a : Keys) where
-  -- `hasRoom`
-  pub record Room (n : ℕ) : Type 0 where
-    pub few : n ≤ 65536
-    pub keys : n ≤ length (a .keys)
-    pub keyed : n ≤ length (a .keyed)
-    pub held : n ≤ length (a .held)
-
-  -- slot i has the key k and holds the position p
-  pub record Holds (k p i : ℕ) : Type 0 where
-    pub keyed : getD (a .keyed) i false ≡ true
-    pub key : getD (a .keys) i 0 ≡ k
-    pub position : getD (a .held) i 0 ≡ p
-
-  -- no earlier slot holds what slot j holds, and without a key it holds 0
-  pub record New (j : ℕ) : Type 0 where
-    pub once : (i k p : ℕ) → i < j → Holds k p i → Holds k p j → ⊥
-    pub loose : getD (a .keyed) j false ≡ false → getD (a .held) j 0 ≡ 0
-
-  -- where slot j holds a position above 0, one of the first n slots holds the position before
-  abbrev pub Preceded : (n j : ℕ) → Type 0
-  Preceded n j = (k p : ℕ) → Holds k (suc p) j → (i : ℕ) × (i < n) × Holds k p i
-
-  pub record Ordered (n : ℕ) : Type 0 where
-    pub new : (j : ℕ) → j < n → New j
-    pub next : (j : ℕ) → j < n → Preceded n j
+-- ---- what the program's one pass asks of each slot
 
 -- Slot j follows the last keyed slot before it, whose number is last - 1 (last is 0 where there is none): it has a greater key and position 0, or the same key and the
 -- next position.
@@ -74,3 +37,11 @@ pub data Follows (keys held : List ℕ) : (last j : ℕ) → Type 0 where
 pub record Rising (a : Keys) (last j : ℕ) : Type 0 where
   pub follows : getD (a .keyed) j false ≡ true → Follows (a .keys) (a .held) last j
   pub loose : getD (a .keyed) j false ≡ false → getD (a .held) j 0 ≡ 0
+
+-- none of the first n slots has a key
+abbrev pub NoneKeyed : (keyed : List Bool) (n : ℕ) → Type 0
+NoneKeyed keyed n = (i : ℕ) → i < n → getD keyed i false ≡ false
+
+-- the words of the first n slots rise
+abbrev pub Climbing : (keys : List ℕ) (n : ℕ) → Type 0
+Climbing keys n = (i j : ℕ) → i < j → j < n → getD keys i 0 < getD keys j 0

@@ -2,7 +2,10 @@
 pub mod Powers
 mod Product
 pub mod Signs
+mod Columns
 pub mod Passes
+mod Turns
+mod Walks
 pub mod Spans
 mod Written
 pub mod Applied

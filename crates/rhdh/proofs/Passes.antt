@@ -1,123 +1,148 @@
--- A pass in place, pair by pair and block by block, is the pass of specs/Fwht.antt, over any type of entries.
-use mathlib.Core.List.{List}
+-- A pass entry by entry, over any type of entries: what it leaves in whole blocks of 2 * h places depends on those places alone, and what it leaves in places h apart on those alone.
+use mathlib.Core.List.{List, [], _++_}
 use mathlib.Core.Path.{_≡_, refl, sym, ap, ap₂, _∙_}
-use Prim.Native.Nat.{ℕ, _+_, _-_, _*_, _%_, _≤_, _<_}
-use native.Mathlib.Nat.{lt-of-mul-lt-mul-right, mul-le-mul-right, div-eq-of-lt-le}
+use Prim.Native.Nat.{ℕ, zero, suc, _+_, _-_, _*_, _/_, _%_, _^_, _≤_, _<_}
+use native.Mathlib.Nat.{lt-of-mul-lt-mul-right, mul-le-mul-right, mul-comm, mod-lt, div-mul-le-self, lt-div-mul-add, div-eq-of-lt, mul-add-div-right, add-mul-div-right, div-div-eq-div-mul, pow-suc}
 use native.Mathlib.Decide.{decLt}
 use native.Mathlib.Omega.{arith}
-use borrow.Author.Tests.{eq-eqb}
-use lib.ListN.{length, getD, set, length-set}
-use lib.Seq.{ext-getD, getD-set-same, getD-set-other, lt-length-set}
+use lib.ListN.{length, getD, length-append, List·getD-append, List·getD-eq-default}
+use lib.Seq.{ext-getD, getD-append-add}
 use Rattle.lists.proofs.Laws.{length-tab, getD-tab}
 use Rattle.rhdh.specs.Fwht.{entry, pass}
-use Rattle.rhdh.specs.InPlace.{Blocks, Paired}
+use Rattle.rhdh.specs.InPlace.{column, spans}
+use Rattle.rhdh.proofs.Columns.{place-fits, column-length, getD-column}
 
--- a block that starts among whole blocks ends among them
-pub block-fits : (h i n : ℕ) → (b : ℕ) × (i ≡ b * (h + h)) → Blocks h n → i < n → i + (h + h) ≤ n
-block-fits h i n (b, e) s l =
-    let less : b < s .count .0 = lt-of-mul-lt-mul-right (h + h) (omega (arith, s .count .1)) in
-    omega (arith, s .count .1, mul-le-mul-right (h + h) less)
+-- a block that starts among whole blocks of m places ends among them
+pub block-fits : (m b c n : ℕ) → n ≡ c * m → b * m < n → b * m + m ≤ n
+block-fits m b c n e l =
+    let less : b < c = lt-of-mul-lt-mul-right m (omega arith) in
+    omega (arith, mul-le-mul-right m less)
+
+-- no odd stretch of h places is the first
+odd-reaches : (h i : ℕ) → i / h % 2 ≡ 1 → h ≤ i
+odd-reaches h i o = go (decLt i h)
+  where
+    go : Dec (i < h) → h ≤ i
+    go (yes l) = absurd (let z : i / h ≡ 0 = div-eq-of-lt l in omega arith)
+    go (no l) = omega arith
+
+-- the place h above one in an even stretch of h places is in the same whole block
+even-fits : (h i c n : ℕ) → 0 < h → n ≡ c * (h + h) → i < n → i / h % 2 ≡ 0 → i + h < n
+even-fits h i c n p e l z =
+    let k = i / h / 2 in
+    let twice : k + k ≡ i / h = omega arith in
+    let start : k * (h + h) ≡ i / h * h = omega (arith, ap (λ (x : ℕ). x * h) twice) in
+    omega (arith, block-fits (h + h) k c n e (omega (arith, div-mul-le-self i h)), lt-div-mul-add {a = i} p)
+
+down : (h q s : ℕ) → s ≤ q → (q - s) * h + s * h ≡ q * h
+down h q s l = let e : q - s + s ≡ q = omega arith in omega (arith, ap (λ (x : ℕ). x * h) e)
 
 module _ {A : Type 0} (d : A) (plus minus : A → A → A) where
-  -- ---- pair after pair
-
-  -- two stores h places apart
-  module _ (h j : ℕ) (v : List A) (x y : A) (p : 0 < h) (r : j + h < length v) where
-    first : getD (set (set v j x) (j + h) y) j d ≡ x
-    first = getD-set-other (set v j x) (j + h) j y d (λ e. omega arith) ∙ getD-set-same v j x d (omega arith)
-
-    second : getD (set (set v j x) (j + h) y) (j + h) d ≡ y
-    second = getD-set-same (set v j x) (j + h) y d (lt-length-set v j x r)
-
-    other : (t : ℕ) → (t ≡ j → ⊥) → (t ≡ j + h → ⊥) → getD (set (set v j x) (j + h) y) t d ≡ getD v t d
-    other t a b = getD-set-other (set v j x) (j + h) t y d b ∙ getD-set-other v j t x d a
-
-  pub pair-stored : (h j : ℕ) (v : List A) → 0 < h → j + h < length v
-      → Paired d plus minus h j (j + 1) v (set (set v j (plus (getD v j d) (getD v (j + h) d))) (j + h) (minus (getD v j d) (getD v (j + h) d)))
-  pair-stored h j v p r =
-      record {
-        same = simp length-set;
-        sums = λ t l u. let e : t ≡ j = omega arith in rw e (first h j v _ _ p r);
-        differences = λ t l u. let e : t ≡ j = omega arith in rw e (second h j v _ _ p r);
-        kept = λ t a b. other h j v _ _ p r t (λ e. a (omega arith) (omega arith)) (λ e. b (omega arith) (omega arith));
-      }
-
-  pub paired-none : (h i : ℕ) (v : List A) → Paired d plus minus h i i v v
-  paired-none h i v = record { same = refl; sums = λ t l u. absurd (omega arith); differences = λ t l u. absurd (omega arith); kept = λ t p q. refl }
-
-  -- the pairs from i up to j, then those from j up to e, all of one block
-  module _ (h i j e : ℕ) (v w x : List A) (p : Paired d plus minus h i j v w) (q : Paired d plus minus h j e w x) (a : i ≤ j) (b : j ≤ e) (r : e ≤ i + h) where
-    -- a later pair is still as it was
-    later : (f : A → A → A) (t : ℕ) → j ≤ t → t < e → f (getD w t d) (getD w (t + h) d) ≡ f (getD v t d) (getD v (t + h) d)
-    later f t l u = ap₂ f (p .kept t (λ y z. omega arith) (λ y z. omega arith)) (p .kept (t + h) (λ y z. omega arith) (λ y z. omega arith))
-
-    pub paired-join : Paired d plus minus h i e v x
-    paired-join =
-        record {
-          same = q .same ∙ p .same;
-          sums = λ t l u. sum t l u (decLt t j);
-          differences = λ t l u. difference t l u (decLt t j);
-          kept = λ t y z. q .kept t (λ l u. y (omega arith) u) (λ l u. z (omega arith) u) ∙ p .kept t (λ l u. y l (omega arith)) (λ l u. z l (omega arith));
-        }
-      where
-        sum : (t : ℕ) → i ≤ t → t < e → Dec (t < j) → getD x t d ≡ plus (getD v t d) (getD v (t + h) d)
-        sum t l u (yes k) = q .kept t (λ y z. omega arith) (λ y z. omega arith) ∙ p .sums t l k
-        sum t l u (no k) = q .sums t (omega arith) u ∙ later plus t (omega arith) u
-
-        difference : (t : ℕ) → i ≤ t → t < e → Dec (t < j) → getD x (t + h) d ≡ minus (getD v t d) (getD v (t + h) d)
-        difference t l u (yes k) = q .kept (t + h) (λ y z. omega arith) (λ y z. omega arith) ∙ p .differences t l k
-        difference t l u (no k) = q .differences t (omega arith) u ∙ later minus t (omega arith) u
-
-  -- ---- block after block
-
-  -- the place t of stretch q of h places, at the span h
-  module _ (h t q : ℕ) (v : List A) (l : q * h ≤ t) (u : t < (q + 1) * h) where
-    entry-even : q % 2 ≡ 0 → entry d plus minus h v t ≡ plus (getD v t d) (getD v (t + h) d)
-    unfolding entry
-    entry-even e = rw (div-eq-of-lt-le h l u, eq-eqb (q % 2) 0 e)
-
-    entry-odd : q % 2 ≡ 1 → entry d plus minus h v t ≡ minus (getD v (t - h) d) (getD v t d)
-    unfolding entry
-    entry-odd e = rw (div-eq-of-lt-le h l u, e)
-
-  -- w is v after the pass at the span h in its first i places, which are whole blocks
-  pub record Passed (h i : ℕ) (v w : List A) : Type 0 where
-    pub count : (b : ℕ) × (i ≡ b * (h + h))
-    pub same : length w ≡ length v
-    pub done : (t : ℕ) → t < i → getD w t d ≡ entry d plus minus h v t
-    pub rest : (t : ℕ) → i ≤ t → getD w t d ≡ getD v t d
-
-  pub passed-none : (h : ℕ) (v : List A) → Passed h 0 v v
-  passed-none h v = record { count = (0, omega arith); same = refl; done = λ t l. absurd (omega arith); rest = λ t l. refl }
-
-  module _ (h i : ℕ) (v w x : List A) (p : Passed h i v w) (q : Paired d plus minus h i (i + h) w x) where
-    low : (t : ℕ) → i ≤ t → t < i + h → getD x t d ≡ entry d plus minus h v t
-    low t l u =
-        q .sums t l u ∙ ap₂ plus (p .rest t l) (p .rest (t + h) (omega arith))
-        ∙ sym (entry-even h t (p .count .0 + p .count .0) v (omega (arith, p .count .1)) (omega (arith, p .count .1)) (omega arith))
-
-    high : (t : ℕ) → i ≤ t → t < i + h → getD x (t + h) d ≡ entry d plus minus h v (t + h)
-    high t l u =
-        q .differences t l u ∙ ap₂ minus (p .rest t l) (p .rest (t + h) (omega arith))
-        ∙ ap (λ (s : ℕ). minus (getD v s d) (getD v (t + h) d)) (omega arith)
-        ∙ sym (entry-odd h (t + h) (p .count .0 + p .count .0 + 1) v (omega (arith, p .count .1)) (omega (arith, p .count .1)) (omega arith))
-
-    pub passed-more : Passed h (i + (h + h)) v x
-    passed-more =
-        record {
-          count = (p .count .0 + 1, omega (arith, p .count .1));
-          same = q .same ∙ p .same;
-          done = λ t l. at t l (decLt t i) (decLt t (i + h));
-          rest = λ t l. q .kept t (λ a b. omega arith) (λ a b. omega arith) ∙ p .rest t (omega arith);
-        }
-      where
-        at : (t : ℕ) → t < i + (h + h) → Dec (t < i) → Dec (t < i + h) → getD x t d ≡ entry d plus minus h v t
-        at t l (yes a) k = q .kept t (λ y z. omega arith) (λ y z. omega arith) ∙ p .done t a
-        at t l (no a) (yes k) = low t (omega arith) k
-        at t l (no a) (no k) = let s : t - h + h ≡ t = omega arith in rw s at (high (t - h) (omega arith) (omega arith))
-
-  pub passed-all : (h i : ℕ) (v w : List A) → Passed h i v w → length v ≤ i → w ≡ pass d plus minus h v
+  pub pass-length : (h : ℕ) (v : List A) → length (pass d plus minus h v) ≡ length v
   unfolding pass
-  passed-all h i v w p l =
-      ext-getD d w _ (p .same ∙ sym (length-tab (entry d plus minus h v) (length v)))
-      (λ t u. p .done t (omega (arith, p .same)) ∙ sym (getD-tab (entry d plus minus h v) (length v) t d (omega (arith, p .same))))
+  pass-length h v = length-tab _ (length v)
+
+  getD-pass : (h i : ℕ) (v : List A) → i < length v → getD (pass d plus minus h v) i d ≡ entry d plus minus h v i
+  unfolding pass
+  getD-pass h i v l = getD-tab _ (length v) i d l
+
+  -- place i of v at the span h and place j of w at the span g: the same half of equal pairs
+  module _ (h g i j : ℕ) (v w : List A) (parity : i / h % 2 ≡ j / g % 2) (here : getD v i d ≡ getD w j d)
+      (above : i / h % 2 ≡ 0 → getD v (i + h) d ≡ getD w (j + g) d) (below : h ≤ i → g ≤ j → getD v (i - h) d ≡ getD w (j - g) d) where
+    entries-agree : entry d plus minus h v i ≡ entry d plus minus g w j
+    unfolding entry
+    entries-agree = go (i / h % 2) refl (mod-lt (i / h) (omega arith))
+      where
+        go : (r : ℕ) → i / h % 2 ≡ r → r < 2 → entry d plus minus h v i ≡ entry d plus minus g w j
+        go zero e l = rw (← parity, e) (ap₂ plus here (above e))
+        go (suc zero) e l = rw (← parity, e) (ap₂ minus (below (odd-reaches h i e) (odd-reaches g j (sym parity ∙ e))) here)
+        go (suc (suc r)) e l = absurd (omega arith)
+
+  -- ---- whole blocks
+
+  module _ (h c : ℕ) (a b : List A) (p : 0 < h) (e : length a ≡ c * (h + h)) where
+    front : (i : ℕ) → i < length a → entry d plus minus h (a ++ b) i ≡ entry d plus minus h a i
+    front i l =
+        entries-agree h h i i (a ++ b) a refl (List·getD-append a b d i l) (λ z. List·getD-append a b d (i + h) (even-fits h i c (length a) p e l z))
+        (λ r s. List·getD-append a b d (i - h) (omega arith))
+
+    parity : (i : ℕ) → (length a + i) / h % 2 ≡ i / h % 2
+    parity i =
+        let q : (length a + i) / h ≡ c + c + i / h = ap (λ (x : ℕ). x / h) {y = (c + c) * h + i} (omega arith) ∙ mul-add-div-right p (c + c) i in
+        rw q (omega arith)
+
+    back : (i : ℕ) → entry d plus minus h (a ++ b) (length a + i) ≡ entry d plus minus h b i
+    back i =
+        entries-agree h h (length a + i) i (a ++ b) b (parity i) (getD-append-add a b i d)
+        (λ z. ap (λ (x : ℕ). getD (a ++ b) x d) {y = length a + (i + h)} (omega arith) ∙ getD-append-add a b (i + h) d)
+        (λ r s. ap (λ (x : ℕ). getD (a ++ b) x d) {y = length a + (i - h)} (omega arith) ∙ getD-append-add a b (i - h) d)
+
+    pub pass-append : pass d plus minus h (a ++ b) ≡ pass d plus minus h a ++ pass d plus minus h b
+    pass-append = ext-getD d _ _ (simp (pass-length, length-append)) (λ i l. at i (rw (pass-length h (a ++ b), length-append a b) at l) (decLt i (length a)))
+      where
+        at : (i : ℕ) → i < length a + length b → Dec (i < length a)
+            → getD (pass d plus minus h (a ++ b)) i d ≡ getD (pass d plus minus h a ++ pass d plus minus h b) i d
+        at i l (yes k) =
+            getD-pass h i (a ++ b) (rw length-append l) ∙ front i k ∙ sym (getD-pass h i a k)
+            ∙ sym (List·getD-append (pass d plus minus h a) (pass d plus minus h b) d i (rw pass-length k))
+        at i l (no k) =
+            let s : length a + (i - length a) ≡ i = omega arith in
+            rw (← s)
+            (getD-pass h (length a + (i - length a)) (a ++ b) (rw (s, length-append) l) ∙ back (i - length a) ∙ sym (getD-pass h (i - length a) b (omega arith))
+            ∙ sym (getD-append-add (pass d plus minus h a) (pass d plus minus h b) (i - length a) d)
+            ∙ ap (λ (x : ℕ). getD (pass d plus minus h a ++ pass d plus minus h b) (x + (i - length a)) d) (pass-length h a))
+
+  -- ---- places h apart
+
+  module _ (h t m : ℕ) (v : List A) (l : t < h) (e : length v ≡ m * h) where
+    -- at every q: where the column has ended, so has the list
+    column-at : (q : ℕ) → getD v (t + q * h) d ≡ getD (column d h t m v) q d
+    column-at q = go (decLt q m)
+      where
+        go : Dec (q < m) → getD v (t + q * h) d ≡ getD (column d h t m v) q d
+        go (yes k) = sym (getD-column d h t m q v k)
+        go (no k) =
+            let past : m * h ≤ q * h = mul-le-mul-right h (omega arith) in
+            List·getD-eq-default v d (omega arith) ∙ sym (List·getD-eq-default (column d h t m v) d (rw column-length (omega arith)))
+
+    -- the column of the pass at s times the span is the pass at the span s of the column
+    pub column-pass : (s : ℕ) → column d h t m (pass d plus minus (s * h) v) ≡ pass d plus minus s (column d h t m v)
+    column-pass s = ext-getD d _ _ (simp (pass-length, column-length)) (λ q k. at q (rw column-length at k))
+      where
+        stretch : (q : ℕ) → (t + q * h) / (s * h) ≡ q / s
+        stretch q =
+            ap (λ (x : ℕ). (t + q * h) / x) (mul-comm s h) ∙ sym (div-div-eq-div-mul (t + q * h) h s)
+            ∙ ap (λ (x : ℕ). x / s) (add-mul-div-right t q (omega arith) ∙ omega (arith, div-eq-of-lt l))
+
+        at : (q : ℕ) → q < m → getD (column d h t m (pass d plus minus (s * h) v)) q d ≡ getD (pass d plus minus s (column d h t m v)) q d
+        at q k =
+            getD-column d h t m q (pass d plus minus (s * h) v) k ∙ getD-pass (s * h) (t + q * h) v (rw e (place-fits h t m q l k))
+            ∙ entries-agree (s * h) s (t + q * h) q v (column d h t m v) (ap (λ (x : ℕ). x % 2) (stretch q)) (column-at q)
+            (λ z. ap (λ (x : ℕ). getD v x d) {y = t + (q + s) * h} (omega arith) ∙ column-at (q + s))
+            (λ r o. ap (λ (x : ℕ). getD v x d) {y = t + (q - s) * h} (omega (arith, down h q s o)) ∙ column-at (q - s))
+            ∙ sym (getD-pass s q (column d h t m v) (rw column-length k))
+
+  -- ---- pass after pass
+
+  pub spans-length : (k h : ℕ) (v : List A) → length (spans d plus minus h k v) ≡ length v
+  spans-length zero h v = refl
+  spans-length (suc k) h v = spans-length k (h + h) (pass d plus minus h v) ∙ pass-length h v
+
+  pub spans-nil : (k h : ℕ) → spans d plus minus h k [] ≡ []
+  unfolding pass
+  spans-nil zero h = refl
+  spans-nil (suc k) h = spans-nil k (h + h)
+
+  pub spans-append : (k h c : ℕ) (a b : List A) → 0 < h → length a ≡ c * (2 ^ k * h) → spans d plus minus h k (a ++ b) ≡ spans d plus minus h k a ++ spans d plus minus h k b
+  spans-append zero h c a b p e = refl
+  spans-append (suc k) h c a b p e =
+      let size : length a ≡ c * (2 ^ k * (h + h)) = e ∙ ap (λ (x : ℕ). c * x) {y = 2 ^ k * (h + h)} (rw (pow-suc 2 k) (omega arith)) in
+      ap (spans d plus minus (h + h) k) (pass-append h (c * 2 ^ k) a b p (omega arith))
+      ∙ spans-append k (h + h) c (pass d plus minus h a) (pass d plus minus h b) (omega arith) (pass-length h a ∙ size)
+
+  pub column-spans : (k h t m s : ℕ) (v : List A) → t < h → length v ≡ m * h → column d h t m (spans d plus minus (s * h) k v) ≡ spans d plus minus s k (column d h t m v)
+  column-spans zero h t m s v l e = refl
+  column-spans (suc k) h t m s v l e =
+      ap (λ (x : ℕ). column d h t m (spans d plus minus x k (pass d plus minus (s * h) v))) {y = (s + s) * h} (omega arith)
+      ∙ column-spans k h t m (s + s) (pass d plus minus (s * h) v) l (pass-length (s * h) v ∙ e)
+      ∙ ap (spans d plus minus (s + s) k) (column-pass h t m v l e s)

@@ -1,14 +1,17 @@
--- The start by the seed and the sign by the output's top bit, case by case; and that every state of a sign stream is above 0 and below 2 ^ 64.
+-- The start by the seed and the sign by the output's top bit; and that every state of a sign stream is above 0 and below 2 ^ 64.
 use mathlib.Core.Bool.{true, false}
+use mathlib.Core.List.{[], _∷_}
 use mathlib.Core.Path.{_≡_, refl, sym, ap, _∙_}
 use Prim.Native.Nat.{ℕ, zero, suc, zero-le, suc-le-suc, _+_, _*_, _/_, _%_, _^_, _≤_, _<_}
-use native.Mathlib.Nat.{lt-of-le-of-lt, mul-le-mul-left, mod-lt, mod-one, mod-eq-of-lt, mul-mod-left, pow-suc, zero-lt-suc}
+use native.Mathlib.Nat.{lt-of-le-of-lt, mul-le-mul-left, mod-lt, mod-one, mod-eq-of-lt, div-eq-of-lt, mul-mod-left, pow-suc, zero-lt-suc}
+use native.Mathlib.Decide.{decLt}
 use native.Mathlib.Omega.{arith}
 use borrow.Author.Tests.{lt-ltb, le-ltb, ne-eqb}
 use lib.Bits.{bitXor, xor-lt, xor-add-and, and-le-l, and-le-r}
 use lib.Dec.{lit<}
-use lib.Ieee.{fin}
+use lib.Ieee.{Float, fin}
 use lib.IntN.{pos}
+use lib.ListN.{getD}
 use lib.Pow.{pow-pos, pow-mono, shr-le, split, mod-mod-pow}
 use Rattle.rhdh.specs.Signs.{start, xorRight, xorLeft, step, output, sign, state}
 
@@ -22,13 +25,14 @@ pub start-other : (seed : ℕ) → (seed ≡ 0 → ⊥) → seed ≡ start seed
 unfolding start
 start-other seed n = rw (ne-eqb seed 0 n)
 
-pub sign-minus : (s o : ℕ) → o ≡ output s → o < 2 ^ 63 → fin true 1 (pos 0) ≡ sign (output s)
-unfolding sign
-sign-minus s o e l = rw (← e, lt-ltb o (2 ^ 63) l)
-
-pub sign-plus : (s o : ℕ) → o ≡ output s → 2 ^ 63 ≤ o → fin false 1 (pos 0) ≡ sign (output s)
-unfolding sign
-sign-plus s o e l = rw (← e, le-ltb o (2 ^ 63) l)
+-- the sign as the entry of two that the top bit numbers
+pub sign-by-top : (d : Float) (s o : ℕ) → o ≡ output s → getD (fin true 1 (pos 0) ∷ fin false 1 (pos 0) ∷ []) (o / 2 ^ 63) d ≡ sign (output s)
+unfolding sign output
+sign-by-top d s o e = go (decLt o (2 ^ 63))
+  where
+    go : Dec (o < 2 ^ 63) → getD (fin true 1 (pos 0) ∷ fin false 1 (pos 0) ∷ []) (o / 2 ^ 63) d ≡ sign (output s)
+    go (yes l) = rw (← e, lt-ltb o (2 ^ 63) l, div-eq-of-lt l)
+    go (no l) = let top : o / 2 ^ 63 ≡ 1 = omega (arith, e) in rw (← e, le-ltb o (2 ^ 63) (omega arith), top)
 
 -- ---- a step stays below 2 ^ 64
 

@@ -1,32 +1,27 @@
 -- Pass after pass: the transform as a whole, over any type of entries.
 use mathlib.Core.Bool.{Bool, true, false, cond}
 use mathlib.Core.List.{List}
-use mathlib.Core.Path.{_≡_, refl, sym, ap, ap₂, _∙_, subst}
+use mathlib.Core.Path.{_≡_, refl, sym, ap, ap₂, _∙_}
 use Prim.Native.Nat.{ℕ, zero, suc, _+_, _-_, _*_, _^_, _≤_, _<_}
-use native.Mathlib.Nat.{le-antisymm}
+use native.Mathlib.Nat.{le-antisymm, le-of-suc-le-suc}
 use native.Mathlib.Omega.{arith}
 use borrow.Author.Tests.{eq-eqb, ne-eqb}
 use lib.ListN.{length}
-use lib.Pow.{pow-pos, pow-add}
-use Rattle.lists.proofs.Laws.{length-tab}
+use lib.Pow.{pow-pos, pow-add, pow-mono}
 use Rattle.rhdh.specs.Padded.{exponent, isPowerOfTwo}
 use Rattle.rhdh.specs.Fwht.{pass, passes, fwht}
-use Rattle.rhdh.specs.InPlace.{Blocks}
-use Rattle.rhdh.proofs.Powers.{exponent-pow, pow-reflects-lt, pow-reflects-le}
+use Rattle.rhdh.specs.InPlace.{Blocks, Spanned, spans}
+use Rattle.rhdh.proofs.Powers.{exponent-pow, pow-reflects-lt}
+use Rattle.rhdh.proofs.Passes.{pass-length}
 
--- a power of two is whole blocks at the span of each lower one
-power-blocks : (k x : ℕ) → Blocks (2 ^ k) (2 ^ (x + suc k))
-power-blocks k x = record { positive = pow-pos k; count = (2 ^ x, pow-add 2 x (suc k) ∙ ap (λ (z : ℕ). 2 ^ x * z) {y = 2 ^ k + 2 ^ k} (omega arith)) }
-
-blocks : (k n : ℕ) → k < exponent n → 2 ^ exponent n ≡ n → Blocks (2 ^ k) n
-blocks k n l e =
-    subst (Blocks (2 ^ k)) (ap (λ (z : ℕ). 2 ^ z) {y = exponent n} (omega arith) ∙ e) (power-blocks k (exponent n - suc k))
+-- a power of two is whole blocks of each lower one
+power-blocks : (j k : ℕ) → j ≤ k → Blocks (2 ^ j) (2 ^ k)
+power-blocks j k l = record { positive = pow-pos j; count = (2 ^ (k - j), ap (λ (z : ℕ). 2 ^ z) {y = k - j + j} (omega arith) ∙ pow-add 2 (k - j) j) }
 
 module _ {A : Type 0} (d : A) (plus minus : A → A → A) where
   pub passes-length : (k : ℕ) (v : List A) → length (passes d plus minus k v) ≡ length v
-  unfolding pass
   passes-length zero v = refl
-  passes-length (suc k) v = length-tab _ (length (passes d plus minus k v)) ∙ passes-length k v
+  passes-length (suc k) v = pass-length d plus minus (2 ^ k) (passes d plus minus k v) ∙ passes-length k v
 
   -- the transform of a list of 2 ^ k entries
   pub fwht-power : (k : ℕ) (v : List A) → length v ≡ 2 ^ k → fwht d plus minus v ≡ passes d plus minus k v
@@ -48,42 +43,49 @@ module _ {A : Type 0} (d : A) (plus minus : A → A → A) where
       go true = passes-length (exponent (length v)) v
       go false = refl
 
-  -- w is v, whose length is a power of two, after the passes at the spans below h
-  pub record Spanned (v w : List A) (h : ℕ) : Type 0 where
-    pub power : 2 ^ exponent (length v) ≡ length v
-    pub count : ℕ
-    pub span : h ≡ 2 ^ count
-    pub within : count ≤ exponent (length v)
-    pub work : w ≡ passes d plus minus count v
+  -- the first c passes, and k more
+  passes-spans : (k c : ℕ) (v : List A) → spans d plus minus (2 ^ c) k (passes d plus minus c v) ≡ passes d plus minus (k + c) v
+  passes-spans zero c v = ap (λ (z : ℕ). passes d plus minus z v) {x = c} {y = 0 + c} (omega arith)
+  passes-spans (suc k) c v =
+      ap (λ (z : ℕ). spans d plus minus z k (passes d plus minus (suc c) v)) {x = 2 ^ c + 2 ^ c} {y = 2 ^ suc c} (omega arith)
+      ∙ passes-spans k (suc c) v ∙ ap (λ (z : ℕ). passes d plus minus z v) {x = k + suc c} {y = suc k + c} (omega arith)
 
-  pub spanned-start : (v : List A) → 2 ^ exponent (length v) ≡ length v → Spanned v v 1
+  pub spanned-start : (v : List A) → 2 ^ exponent (length v) ≡ length v → Spanned d plus minus v v 1
   spanned-start v e = record { power = e; count = 0; span = refl; within = omega arith; work = refl }
 
-  module _ (v w : List A) (h : ℕ) (s : Spanned v w h) where
+  module _ (v w : List A) (h : ℕ) (s : Spanned d plus minus v w h) where
     pub spanned-length : length w ≡ length v
     spanned-length = ap length (s .work) ∙ passes-length (s .count) v
 
     pub spanned-positive : 0 < h
     spanned-positive = rw (s .span) (pow-pos (s .count))
 
-    further : h < length v → s .count < exponent (length v)
-    further l = pow-reflects-lt (s .count) (exponent (length v)) (omega (arith, s .span, s .power))
+    pub spanned-within : h ≤ length v
+    spanned-within = rw (s .span, ← s .power) (pow-mono (s .within))
 
-    pub spanned-blocks : h < length v → Blocks h (length w)
-    spanned-blocks l = rw (s .span, spanned-length) (blocks (s .count) (length v) (further l) (s .power))
+    -- where the span after k more is below the length, there are suc k more
+    module _ (k : ℕ) (l : 2 ^ k * h < length v) where
+      further : suc k + s .count ≤ exponent (length v)
+      further = omega (arith, pow-reflects-lt (k + s .count) (exponent (length v)) (rw (pow-add 2 k (s .count), ← s .span, s .power) l))
 
-    pub spanned-more : (x : List A) → h < length v → x ≡ pass d plus minus h w → Spanned v x (h + h)
-    spanned-more x l p =
-        record {
-          power = s .power;
-          count = suc (s .count);
-          span = omega (arith, s .span);
-          within = further l;
-          work = p ∙ ap₂ (pass d plus minus) (s .span) (s .work);
-        }
+      power : 2 ^ suc k * h ≡ 2 ^ (suc k + s .count)
+      power = ap (λ (z : ℕ). 2 ^ suc k * z) (s .span) ∙ sym (pow-add 2 (suc k) (s .count))
 
-    all : length v ≤ h → s .count ≡ exponent (length v)
-    all l = le-antisymm (s .within) (pow-reflects-le (exponent (length v)) (s .count) (omega (arith, s .span, s .power)))
+      pub spanned-blocks : Blocks (2 ^ suc k * h) (length w)
+      spanned-blocks = rw (power, spanned-length, ← s .power) (power-blocks (suc k + s .count) (exponent (length v)) further)
 
-    pub spanned-end : length v ≤ h → w ≡ fwht d plus minus v
+      pub spanned-more : (x : List A) → x ≡ spans d plus minus h (suc k) w → Spanned d plus minus v x (2 ^ suc k * h)
+      spanned-more x p =
+          record {
+            power = s .power;
+            count = suc k + s .count;
+            span = power;
+            within = further;
+            work = p ∙ ap₂ (λ (z : ℕ) (l : List A). spans d plus minus z (suc k) l) (s .span) (s .work) ∙ passes-spans (suc k) (s .count) v;
+          }
+
+    all : length v < 2 * h → s .count ≡ exponent (length v)
+    all l = le-antisymm (s .within) (le-of-suc-le-suc (pow-reflects-lt (exponent (length v)) (suc (s .count)) (omega (arith, s .span, s .power))))
+
+    pub spanned-end : length v < 2 * h → w ≡ fwht d plus minus v
     spanned-end l = s .work ∙ sym (fwht-power (s .count) v (rw (all l) (sym (s .power))))

@@ -3,14 +3,17 @@ use mathlib.Core.List.{List}
 use Prim.Native.Nat.{ℕ}
 use lib.Ieee as Ieee
 use lib.Ieee.{Float, binary32, nan}
-use Rattle.rhdh.specs.Fwht.{pass, fwht}
-use Rattle.rhdh.specs.InPlace.{Paired}
+use Rattle.rhdh.specs.Fwht.{fwht}
+use Rattle.rhdh.specs.InPlace.{spans, turned, Spanned}
 
 abbrev pub fwht32 : List Float → List Float
 fwht32 = fwht nan (Ieee.add binary32) (Ieee.sub binary32)
 
-abbrev pub pass32 : ℕ → List Float → List Float
-pass32 = pass nan (Ieee.add binary32) (Ieee.sub binary32)
+abbrev pub spans32 : ℕ → ℕ → List Float → List Float
+spans32 = spans nan (Ieee.add binary32) (Ieee.sub binary32)
 
-abbrev pub Paired32 : ℕ → ℕ → ℕ → List Float → List Float → Type 0
-Paired32 = Paired nan (Ieee.add binary32) (Ieee.sub binary32)
+abbrev pub turned32 : ℕ → ℕ → ℕ → List Float → List Float
+turned32 = turned nan (Ieee.add binary32) (Ieee.sub binary32)
+
+abbrev pub Spanned32 : List Float → List Float → ℕ → Type 0
+Spanned32 = Spanned nan (Ieee.add binary32) (Ieee.sub binary32)

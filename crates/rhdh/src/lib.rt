@@ -3,9 +3,9 @@ ghost use mathlib.Core.Path.{_≡_};
 ghost use Prim.Native.Nat.{_+_, _*_, _%_, _^_, _≤_, _<_};
 ghost use lib.ListN.{length, getD};
 ghost use Rattle.rhdh.specs.Signs.{start, step, output, sign};
-ghost use Rattle.rhdh.specs.Padded.{paddedDim};
+ghost use Rattle.rhdh.specs.Padded.{exponent, paddedDim};
 ghost use Rattle.rhdh.specs.InPlace.{Blocks};
-ghost use Rattle.rhdh.specs.Binary32.{Paired32, pass32, fwht32};
+ghost use Rattle.rhdh.specs.Binary32.{fwht32, spans32, turned32, Spanned32};
 ghost use Rattle.pattern.specs.Binary32.{+0};
 ghost use Rattle.rhdh.specs.Rotation.{signed, rotated, applied};
 
@@ -19,6 +19,13 @@ pub fn wrapping_mul(a: u64, b: u64) -> u64
     let low = (a % BASE) * (b % BASE);
     let cross = std::num::wrapping_add_u64((a % BASE) * (b / BASE), (a / BASE) * (b % BASE));
     std::num::wrapping_add_u64(low, cross << 32)
+}
+
+// The state times the multiplier. It is lent, so that the compiler forms `wrapping_mul` of any two factors, which is one multiplication: with the constant put in first there would be three.
+fn scrambled(state: u64, multiplier: &[u64; 1]) -> u64
+    ensures { λ r. ⌜ r ≡ state * getD (now (multiplier .entry)) 0 0 % 2 ^ 64 ⌝ }
+{
+    wrapping_mul(state, multiplier[0])
 }
 
 // The generator xorshift64*, from which the signs come.
@@ -45,7 +52,8 @@ impl SignStream {
         Self { state: seed }
     }
 
-    // A step, and the sign by the top bit of the output. The Rust compares the output's top 53 bits, as a fraction, with 0.5, which is the same test.
+    // A step, and the sign by the top bit of the output. The Rust compares the output's top 53 bits, as a fraction, with 0.5, which is the same test. The bit picks the sign from an array: a
+    // jump would be guessed wrong half the time.
     pub fn next_sign(self) -> Signed
         ensures state { λ r. ⌜ r .stream .state ≡ step (self .state) ⌝ }
         ensures sign { λ r. ⌜ r .sign ≡ sign (output (step (self .state))) ⌝ }
@@ -54,15 +62,13 @@ impl SignStream {
         let a = s ^ (s >> 12);
         let b = a ^ (a << 25);
         let next = b ^ (b >> 27);
-        let output = wrapping_mul(next, 0x2545_F491_4F6C_DD1D);
-        if output < 0x8000_0000_0000_0000 {
-            return Signed {
-                sign: -1.0,
-                stream: Self { state: next },
-            };
-        }
+        let multiplier = [0x2545_F491_4F6C_DD1D];
+        let output = scrambled(next, &multiplier);
+        let signs = [-1.0, 1.0];
+        let top = (output >> 63) as usize;
+        let sign = signs[top];
         Signed {
-            sign: 1.0,
+            sign,
             stream: Self { state: next },
         }
     }
@@ -81,43 +87,151 @@ pub fn padded_dim(dim: usize) -> usize
     1 << (64 - usize::leading_zeros(dim - 1))
 }
 
-// The pair of the places j and j + h to its sum and its difference.
-fn butterfly(v: &mut [f32], j: usize, h: usize)
-    requires { ⌜ (0 < h) × (j + h < length (now v)) ⌝ }
-    ensures { λ _. ⌜ Paired32 h j (j + 1) (now (v .entry)) (now (v .exit)) ⌝ }
+// The entries at j and j + h to their transform.
+fn pair(v: &mut [f32], j: usize, h: usize)
+    requires { ⌜ j + h < length (now v) ⌝ }
+    ensures { λ _. ⌜ now (v .exit) ≡ turned32 1 h j (now (v .entry)) ⌝ }
 {
+    let k = j + h;
     let x = v[j];
-    let y = v[j + h];
+    let y = v[k];
     v[j] = x + y;
-    v[j + h] = x - y;
+    v[k] = x - y;
 }
 
-// The h pairs of the block of 2 * h places from i on.
-fn block(v: &mut [f32], i: usize, h: usize)
-    requires { ⌜ i + (h + h) ≤ length (now v) ⌝ }
-    ensures { λ _. ⌜ Paired32 h i (i + h) (now (v .entry)) (now (v .exit)) ⌝ }
+// The pass at the span h over one block of 2 * h places.
+fn pairs(v: &mut [f32], h: usize)
+    requires { ⌜ length (now v) ≡ 2 * h ⌝ }
+    ensures { λ _. ⌜ now (v .exit) ≡ spans32 h 1 (now (v .entry)) ⌝ }
 {
-    let end = i + h;
-    let mut j = i;
-    while j < end {
-        butterfly(v, j, h);
+    let mut j = 0;
+    while j < h {
+        pair(v, j, h);
         j += 1;
     }
 }
 
-// Every pair at the span h.
+// The pass at the span h.
 fn pass(v: &mut [f32], h: usize)
-    requires { ⌜ Blocks h (length (now v)) ⌝ }
-    ensures { λ _. ⌜ now (v .exit) ≡ pass32 h (now (v .entry)) ⌝ }
+    requires { ⌜ Blocks (2 * h) (length (now v)) ⌝ }
+    ensures { λ _. ⌜ now (v .exit) ≡ spans32 h 1 (now (v .entry)) ⌝ }
 {
     let mut i = 0;
     while i < v.len() {
-        block(v, i, h);
-        i += h + h;
+        let end = i + 2 * h;
+        pairs(&mut v[i..end], h);
+        i = end;
     }
 }
 
-// The fast Walsh-Hadamard transform in place, without scaling. A slice whose length is no power of two is left as it is.
+// The entries at j, j + h, j + 2 * h and j + 3 * h to their transform.
+fn quad(v: &mut [f32], j: usize, h: usize)
+    requires { ⌜ j + h + h + h < length (now v) ⌝ }
+    ensures { λ _. ⌜ now (v .exit) ≡ turned32 2 h j (now (v .entry)) ⌝ }
+{
+    let k = j + h;
+    let l = k + h;
+    let m = l + h;
+    let x = v[j];
+    let y = v[k];
+    let z = v[l];
+    let w = v[m];
+    v[j] = (x + y) + (z + w);
+    v[k] = (x - y) + (z - w);
+    v[l] = (x + y) - (z + w);
+    v[m] = (x - y) - (z - w);
+}
+
+// The passes at the spans h and 2 * h over one block of 4 * h places.
+fn quads(v: &mut [f32], h: usize)
+    requires { ⌜ length (now v) ≡ 4 * h ⌝ }
+    ensures { λ _. ⌜ now (v .exit) ≡ spans32 h 2 (now (v .entry)) ⌝ }
+{
+    let mut j = 0;
+    while j < h {
+        quad(v, j, h);
+        j += 1;
+    }
+}
+
+// The passes at the spans h and 2 * h, in one walk over the places.
+fn double_pass(v: &mut [f32], h: usize)
+    requires { ⌜ Blocks (4 * h) (length (now v)) ⌝ }
+    ensures { λ _. ⌜ now (v .exit) ≡ spans32 h 2 (now (v .entry)) ⌝ }
+{
+    let mut i = 0;
+    while i < v.len() {
+        let end = i + 4 * h;
+        quads(&mut v[i..end], h);
+        i = end;
+    }
+}
+
+// The passes at the spans 1, 2 and 4 over eight places.
+fn eight(v: &mut [f32])
+    requires { ⌜ length (now v) ≡ 8 ⌝ }
+    ensures { λ _. ⌜ now (v .exit) ≡ spans32 1 3 (now (v .entry)) ⌝ }
+{
+    let a0 = v[0];
+    let a1 = v[1];
+    let a2 = v[2];
+    let a3 = v[3];
+    let a4 = v[4];
+    let a5 = v[5];
+    let a6 = v[6];
+    let a7 = v[7];
+    let b0 = a0 + a1;
+    let b1 = a0 - a1;
+    let b2 = a2 + a3;
+    let b3 = a2 - a3;
+    let b4 = a4 + a5;
+    let b5 = a4 - a5;
+    let b6 = a6 + a7;
+    let b7 = a6 - a7;
+    let c0 = b0 + b2;
+    let c1 = b1 + b3;
+    let c2 = b0 - b2;
+    let c3 = b1 - b3;
+    let c4 = b4 + b6;
+    let c5 = b5 + b7;
+    let c6 = b4 - b6;
+    let c7 = b5 - b7;
+    v[0] = c0 + c4;
+    v[1] = c1 + c5;
+    v[2] = c2 + c6;
+    v[3] = c3 + c7;
+    v[4] = c0 - c4;
+    v[5] = c1 - c5;
+    v[6] = c2 - c6;
+    v[7] = c3 - c7;
+}
+
+// The passes at the spans 1, 2 and 4, in one walk over the places.
+fn eights(v: &mut [f32])
+    requires { ⌜ Blocks 8 (length (now v)) ⌝ }
+    ensures { λ _. ⌜ now (v .exit) ≡ spans32 1 3 (now (v .entry)) ⌝ }
+{
+    let mut i = 0;
+    while i < v.len() {
+        let end = i + 8;
+        eight(&mut v[i..end]);
+        i = end;
+    }
+}
+
+// The passes at the first spans. The span where the others begin.
+fn first_spans(v: &mut [f32]) -> usize
+    requires { ⌜ 2 ^ exponent (length (now v)) ≡ length (now v) ⌝ }
+    ensures { λ r. ⌜ Spanned32 (now (v .entry)) (now (v .exit)) r ⌝ }
+{
+    if 8 <= v.len() {
+        eights(v);
+        return 8;
+    }
+    1
+}
+
+// The fast Walsh-Hadamard transform in place, without scaling: two spans at a time, and the last one by itself where it is left over. A slice whose length is no power of two is left as it is.
 pub fn fwht(v: &mut [f32])
     ensures { λ _. ⌜ now (v .exit) ≡ fwht32 (now (v .entry)) ⌝ }
 {
@@ -125,10 +239,13 @@ pub fn fwht(v: &mut [f32])
     if padded_dim(n) != n {
         return;
     }
-    let mut h = 1;
-    while h < n {
+    let mut h = first_spans(v);
+    while h < n / 2 {
+        double_pass(v, h);
+        h = 4 * h;
+    }
+    if h < n {
         pass(v, h);
-        h = h + h;
     }
 }
 

@@ -12,29 +12,23 @@ use Rattle.pattern.proofs.Sums.{sum-snoc}
 use Rattle.lists.specs.Lists.{tab}
 use Rattle.score.specs.Lanes.{inLane, lanes, bracketed}
 use Rattle.score.specs.Score.{byteSums, blockProducts, byteTerms}
-use Rattle.score.proofs.Lanes.{lanes-block}
+use Rattle.score.proofs.Lanes.{InLanes, lanes-again}
 use Rattle.score.proofs.Products.{length-terms}
 
 module _ (block : List ℕ) (query centroids : List Float) where
   abbrev terms : List Float
   terms = byteTerms centroids block query
 
-  -- the first i terms are in the lanes
-  pub record InEight (acc : List Float) (i : ℕ) : Type 0 where
-    pub blocks : i % 8 ≡ 0
-    pub within : i ≤ length query / 2
-    pub sums : acc ≡ lanes 8 (take i terms)
-
-  pub eight-start : InEight (replicate 8 (ofBits binary32 0)) 0
+  pub eight-start : InLanes 8 terms (replicate 8 (ofBits binary32 0)) 0
   unfolding lanes inLane sumFrom ofBits
   eight-start = record { blocks = refl; within = omega arith; sums = refl }
 
-  pub eight-again : (acc next : List Float) (i : ℕ) → InEight acc i → i + 8 ≤ length query / 2 → next ≡ tab (λ j. getD acc j nan ⊕ getD terms (i + j) nan) 8 → InEight next (i + 8)
-  eight-again acc next i h l e =
-      record { blocks = omega arith; within = l; sums = e ∙ lanes-block 8 terms i (h .blocks) (omega (arith, length-terms centroids block query)) acc (h .sums) }
+  pub eight-again : (acc next : List Float) (i : ℕ) → InLanes 8 terms acc i → i + 8 ≤ length query / 2 → next ≡ tab (λ j. getD acc j nan ⊕ getD terms (i + j) nan) 8 → InLanes 8 terms next (i + 8)
+  eight-again acc next i h l = lanes-again 8 terms acc i h next (omega (arith, length-terms centroids block query))
 
-  pub eight-end : (acc : List Float) (i : ℕ) → InEight acc i → length query / 2 < i + 8 → acc ≡ lanes 8 (take (length query / 2 / 8 * 8) terms)
-  eight-end acc i h l = h .sums ∙ ap (λ (n : ℕ). lanes 8 (take n terms)) {x = i} {y = length query / 2 / 8 * 8} (omega arith)
+  pub eight-end : (acc : List Float) (i : ℕ) → InLanes 8 terms acc i → length query / 2 < i + 8 → acc ≡ lanes 8 (take (length query / 2 / 8 * 8) terms)
+  eight-end acc i h l =
+      h .sums ∙ ap (λ (n : ℕ). lanes 8 (take n terms)) {x = i} {y = length query / 2 / 8 * 8} (omega (arith, h .blocks, h .within, length-terms centroids block query))
 
   -- those after the last eight, up to i, are in the tail
   pub record InTail (tail : Float) (i : ℕ) : Type 0 where

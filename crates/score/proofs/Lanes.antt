@@ -4,13 +4,13 @@ use mathlib.Core.Logic.{_⊎_, inl, inr}
 use mathlib.Core.Bool.{Bool, true, false, cond}
 use mathlib.Core.List.{List, [], _∷_, _++_, append-nil}
 use Prim.Native.Nat.{ℕ, zero, suc, _+_, _%_, _≤_, _<_}
-use native.Mathlib.Nat.{add-zero, zero-add, add-suc, suc-add, mod-lt, mod-add-mod, mod-eq-of-lt, eq-or-lt-of-le, le-of-suc-le-suc}
+use native.Mathlib.Nat.{add-zero, zero-add, add-suc, suc-add, mod-lt, add-mod-right, mod-add-mod, mod-eq-of-lt, eq-or-lt-of-le, le-of-suc-le-suc}
 use native.Mathlib.Numerals.{add-one}
 use native.Mathlib.Omega.{arith}
 use borrow.Author.Tests.{eq-eqb, ne-eqb}
 use lib.Dec.{eqb}
 use lib.ListN.{length, take, getD, set}
-use lib.Seq.{take-suc, length-take-le}
+use lib.Seq.{take-suc, take-all, length-take-le}
 use lib.Ieee.{Float, nan}
 use Rattle.pattern.specs.Binary32.{_⊕_, +0, sum}
 use Rattle.pattern.proofs.Sums.{sum-snoc}
@@ -83,6 +83,20 @@ module _ (m : ℕ) where
     pub lanes-block : (acc : List Float) → acc ≡ lanes m (take i ts) → tab (λ j. getD acc j nan ⊕ getD ts (i + j) nan) m ≡ lanes m (take (i + m) ts)
     unfolding lanes
     lanes-block acc a = rw a (tab-ext _ _ m (λ j l. rw (getD-tab (λ j. lane j (take i ts)) m j nan l) (sym (taken j m l (omega arith)))))
+
+-- ---- a loop over m terms at a time: the first i are in the lanes
+pub record InLanes (m : ℕ) (terms acc : List Float) (i : ℕ) : Type 0 where
+  pub blocks : i % m ≡ 0
+  pub within : i ≤ length terms
+  pub sums : acc ≡ lanes m (take i terms)
+
+module _ (m : ℕ) (terms acc : List Float) (i : ℕ) (h : InLanes m terms acc i) where
+  pub lanes-again : (next : List Float) → i + m ≤ length terms → next ≡ tab (λ j. getD acc j nan ⊕ getD terms (i + j) nan) m → InLanes m terms next (i + m)
+  lanes-again next l e =
+      record { blocks = add-mod-right i m ∙ h .blocks; within = l; sums = e ∙ lanes-block m terms i (h .blocks) l acc (h .sums) }
+
+  pub lanes-all : length terms ≤ i → acc ≡ lanes m terms
+  lanes-all l = h .sums ∙ ap (lanes m) (take-all i terms l)
 
 -- ---- brackets
 

@@ -30,7 +30,7 @@ module _ (w : ℕ) (centroids : List Float) (block : List ℕ) (query : List Flo
   unfolding blockProducts products
   length-products = length-zip _⊗_ query _ length-decoded
 
-  product-at : (i : ℕ) → length centroids ≡ 2 ^ w → i < length query
+  pub product-at : (i : ℕ) → length centroids ≡ 2 ^ w → i < length query
       → getD query i nan ⊗ getD centroids (codeAt w block i) nan ≡ getD (blockProducts w centroids block query) i nan
   unfolding blockProducts products
   product-at i e h =
@@ -74,13 +74,13 @@ getD-pairs (x ∷ y ∷ zs) (suc i) h =
 -- ---- the two codes of a byte
 
 module _ (block : List ℕ) (bytes : Below 256 block) (i : ℕ) where
-  low-code : codeAt 4 block (i * 2) ≡ getD block i 0 % 16
+  pub low-code : codeAt 4 block (i * 2) ≡ getD block i 0 % 16
   unfolding codeAt
   low-code =
       ap (λ (z : ℕ). number 256 block / z % 16) (ap (λ (z : ℕ). 2 ^ z) {x = 4 * (i * 2)} {y = 8 * i} (omega arith) ∙ pow-mul 2 8 i)
       ∙ omega (arith, digit-number 256 i block bytes)
 
-  high-code : codeAt 4 block (i * 2 + 1) ≡ getD block i 0 / 16
+  pub high-code : codeAt 4 block (i * 2 + 1) ≡ getD block i 0 / 16
   unfolding codeAt
   high-code =
       ap (λ (z : ℕ). number 256 block / z % 16) (ap (λ (z : ℕ). 2 ^ z) {x = 4 * (i * 2 + 1)} {y = 8 * i + 4} (omega arith) ∙ pow-add 2 (8 * i) 4 ∙ ap (λ (z : ℕ). z * 16) (pow-mul 2 8 i))

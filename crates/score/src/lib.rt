@@ -97,7 +97,7 @@ fn byte_tail(block: &[u8], query: &[f32], centroids: &[f32]) -> f32
 }
 
 // Eight sums by the Rust's brackets.
-fn fold_eight(acc: [f32; 8]) -> f32
+pub fn fold_eight(acc: [f32; 8]) -> f32
     ensures { λ r. ⌜ r ≡ bracketed 3 acc ⌝ }
 {
     let s01 = acc[0] + acc[1];
@@ -154,7 +154,7 @@ fn wide_lanes(block: &[u8], query: &[f32], centroids: &[f32], bits: u8) -> [f32;
 }
 
 // Four sums by the Rust's brackets.
-fn fold_four(acc: [f32; 4]) -> f32
+pub fn fold_four(acc: [f32; 4]) -> f32
     ensures { λ r. ⌜ r ≡ bracketed 2 acc ⌝ }
 {
     let s01 = acc[0] + acc[1];
@@ -185,7 +185,7 @@ pub fn raw_score(bits: u8, centroids: &[f32], block: &[u8], query: &[f32]) -> f3
 }
 
 // The score of one stage. The scale is a pattern, since a float can't hold what a NaN's pattern says.
-fn stage_score(bits: u8, centroids: &[f32], query: &[f32], scale: u32, block: &[u8]) -> f32
+pub fn stage_score(bits: u8, centroids: &[f32], query: &[f32], scale: u32, block: &[u8]) -> f32
     ensures { λ r. ⌜ r ≡ stageScore bits (now (centroids .entry)) (now (query .entry)) (stage scale (now (block .entry))) ⌝ }
 {
     raw_score(bits, centroids, block, query) * pattern::from_bits(scale)

@@ -11,7 +11,7 @@ use Rattle.lists.specs.Lists.{tab, over}
 use Rattle.lists.specs.Keep.{bit, keep, count, Each}
 use Rattle.lists.proofs.Laws.{length-tab, getD-tab}
 use Rattle.lists.proofs.Front.{getD-front, each-tab}
-use Rattle.lists.proofs.Keep.{keep-map, count-map, length-keep}
+use Rattle.lists.proofs.Keep.{keep-map, count-map, length-keep, keep-same}
 use Rattle.unit.proofs.Rotatable.{padded-most}
 use Rattle.index.specs.declared.Index.{Index}
 use Rattle.index.specs.Arrays.{Arrays}
@@ -26,7 +26,7 @@ use Rattle.distances.specs.Distances.{distanceAt}
 use Rattle.distances.proofs.Distance.{distance-slot, distance-below}
 use Rattle.nearest.specs.Nearest.{before, isNear, nearMarks}
 use Rattle.nearest.proofs.Nearest.{near-count}
-use Rattle.hits.specs.Hits.{marked}
+use Rattle.scan.specs.Scan.{marked}
 use Rattle.asking.proofs.Cells.{cells}
 use Rattle.asking.proofs.Live.{live-cells, live-length}
 
@@ -40,10 +40,6 @@ keep-both p q (i ∷ is) = go (q i) (keep-both p q is)
         keep p (cond b (i ∷ keep q is) (keep q is)) ≡ cond (b && p i) (i ∷ keep (λ i. q i && p i) is) (keep (λ i. q i && p i) is)
     go true ih = rw ih
     go false ih = ih
-
-keep-same : (p q : ℕ → Bool) (is : List ℕ) → Each (λ i. p i ≡ q i) is → keep p is ≡ keep q is
-keep-same p q [] h = refl
-keep-same p q (i ∷ is) h = rw (h .0, keep-same p q is (h .1))
 
 bit-marked : (b : Bool) → ltb 0 (bit b) ≡ b
 bit-marked true = refl

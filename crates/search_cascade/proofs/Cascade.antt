@@ -34,7 +34,8 @@ use Rattle.nearest.specs.Nearest.{nearMarks}
 use Rattle.nearest.specs.Nearest as Nearest
 use Rattle.score_slot.specs.Query.{queryFault}
 use Rattle.score_slot.proofs.Query.{query-rotatable}
-use Rattle.hits.specs.Hits.{marked, entered, chosen, ready, shown, listAnswer}
+use Rattle.scan.specs.Scan.{marked}
+use Rattle.hits.specs.Hits.{entered, chosen, ready, shown, listAnswer}
 use Rattle.asking.specs.Faults.{placesFault}
 use Rattle.asking.proofs.Cells.{scores, cells, hits-listed}
 use Rattle.asking.proofs.Live.{live-length}

@@ -41,12 +41,19 @@ coded-below w b h (x ∷ xs) zero = lt-of-le-of-lt (quantized-le b x) h
 coded-below w b h (x ∷ xs) (suc i) = coded-below w b h xs i
 
 module _ (w : ℕ) (b xs : List Float) (bytes : ℕ) (f : Fits w (length b) (length xs) bytes) where
+  room : (codes : List ℕ) → length codes ≡ length xs → Quantizer.codable (length b) (length xs) (length codes) ≡ true
+  unfolding Quantizer.codable
+  room codes l =
+      let most = pow-mono {i = w} {j = 8} (f .width .most) in
+      rw (le-leb (length b) 255 (omega (arith, f .table))) (le-leb (length xs) (length codes) (omega arith))
+
   pub codes-are : (codes next : List ℕ) → length codes ≡ length xs → next ≡ Quantizer.coded b xs codes → next ≡ coded b xs
   unfolding Quantizer.coded over coded
-  codes-are codes next l e =
-      let most = pow-mono {i = w} {j = 8} (f .width .most) in
-      e
-      ∙ rw (le-leb (length b) 255 (omega (arith, f .table)), le-leb (length xs) (length codes) (omega arith), length-map xs, ← l, drop-length codes) (append-nil _)
+  codes-are codes next l e = e ∙ rw (room codes l, length-map xs, ← l, drop-length codes) (append-nil _)
+
+  pub squares-are : (c : List Float) (codes : List ℕ) (r : Float) → length codes ≡ length xs → r ≡ Quantizer.codedSquares b c xs codes → r ≡ sumSquares (dequantized (table b c) xs)
+  unfolding Quantizer.codedSquares coded decoded
+  squares-are c codes r l e = e ∙ rw (room codes l)
 
   pub block-is : (fresh : Bool) (block codes next : List ℕ) → length block ≡ bytes → codes ≡ coded b xs → next ≡ written w codes (spareAfter fresh w (length codes) block) block
       → next ≡ packed w (coded b xs) (spareAfter fresh w (length xs) block)
@@ -96,10 +103,10 @@ pub one-is : ofBits binary32 0x3F80_0000 ≡ whole 1
 unfolding ofBits ofInt round
 one-is = refl
 
-pub plain-is : (b c xs : List Float) (w above : ℕ) (d : List Float) (s n : Float) (r : ℕ) (next : List ℕ) → d ≡ dequantized (table b c) xs → next ≡ packed w (coded b xs) above
-    → s ≡ sumSquares d → SquareRoot s n → r ≡ toBits binary32 (ofBits binary32 0x3F80_0000 ⊘ n) → stage r next ≡ stored w above (plain (table b c) xs)
+pub plain-is : (b c xs : List Float) (w above : ℕ) (s n : Float) (r : ℕ) (next : List ℕ) → next ≡ packed w (coded b xs) above → s ≡ sumSquares (dequantized (table b c) xs)
+    → SquareRoot s n → r ≡ toBits binary32 (ofBits binary32 0x3F80_0000 ⊘ n) → stage r next ≡ stored w above (plain (table b c) xs)
 unfolding plain plainScale
-plain-is b c xs w above d s n r next values packs e root p = ap₂ stage (p ∙ rw (norm-is d s n e root, one-is, values)) packs
+plain-is b c xs w above s n r next packs e root p = ap₂ stage (p ∙ rw (norm-is (dequantized (table b c) xs) s n e root, one-is)) packs
 
 -- ---- the whole call for a plain index
 

@@ -9,11 +9,6 @@ ghost use Rattle.stage.specs.Coding.{table, coded, decoded, dequantized,
 ghost use Rattle.stage.specs.Calls.{fits, spareAfter, left, storedInto, plainInto};
 
 // A working array. Its contents don't matter.
-fn floats() -> [f32; 4096] {
-    [0.0; 4096]
-}
-
-// Another.
 fn bytes() -> [u8; 4096] {
     [0; 4096]
 }
@@ -113,22 +108,22 @@ pub fn store(
     );
 }
 
-// The one stage of a plain index, in places that fit.
+// The one stage of a plain index, in places that fit. Its centroids are needed for their sum of squares only.
 fn store_plain(
     boundaries: &[f32],
     centroids: &[f32],
     rotated: &[f32],
     bits: u8,
     fresh: bool,
-    d: &mut [f32],
+    codes: &mut [u8],
     block: &mut [u8],
 ) -> u32
     requires { ⌜ fits bits (length (now boundaries)) (length (now rotated)) (length (now block)) ≡ true ⌝ }
-    requires { ⌜ length (now d) ≡ length (now rotated) ⌝ }
+    requires { ⌜ length (now codes) ≡ length (now rotated) ⌝ }
     ensures { λ r. ⌜ stage r (now (block .exit)) ≡ stored bits (spareAfter fresh bits (length (now (rotated .entry))) (now (block .entry))) (plain (table (now (boundaries .entry)) (now (centroids .entry))) (now (rotated .entry))) ⌝ }
 {
-    store(boundaries, centroids, rotated, bits, fresh, d, block);
-    let sum = unit::sum_squares(d);
+    let sum = lloyd::quantize_summing(boundaries, centroids, rotated, codes);
+    pack(codes, bits, fresh, block);
     let norm = sqrt::sqrt(sum);
     pattern::to_bits(1.0 / norm)
 }
@@ -148,14 +143,14 @@ pub fn encode_plain(
     if !fits(bits, boundaries.len(), n, block.len()) {
         return 0;
     }
-    let mut d = floats();
+    let mut codes = bytes();
     store_plain(
         boundaries,
         centroids,
         rotated,
         bits,
         fresh,
-        &mut d[0..n],
+        &mut codes[0..n],
         block,
     )
 }

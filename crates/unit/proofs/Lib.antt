@@ -1,5 +1,5 @@
 -- Laws that the proofs of this crate's functions cite, and those of the crates above.
-mod Sums
+pub mod Sums
 pub mod Filling
 pub mod FloatTests
 pub mod Rotatable

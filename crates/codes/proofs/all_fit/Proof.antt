@@ -1,36 +1,33 @@
--- `codes::all_fit` meets its contract. The invariant: every code passed is one of this width.
-use mathlib.Core.Path.{sym}
-use Prim.Native.Nat.{ℕ, _-_, _^_, _<_, _≤_}
+-- `codes::all_fit` meets its contract. The invariant: `fit` is the test of the codes passed.
+use mathlib.Core.Path.{_≡_, refl, sym, ap, _∙_}
+use Prim.Native.Nat.{_-_, _^_, _≤_}
+use native.Mathlib.Numerals.{add-one}
 use native.Mathlib.Omega.{arith}
-use borrow.Author.Count.{below-none, below-more}
-use lib.ListN.{length, getD}
-use Rattle.digits.proofs.Below.{below-yes, below-no}
+use lib.ListN.{length, take}
+use lib.Seq.{take-all}
+use denote.Ref.{now}
+use Rattle.digits.specs.Digits.{below}
+use Rattle.digits.proofs.Below.{below-next}
 use Rattle.codes.proofs.all_fit.Statement.{statement}
 use Rattle.codes.proofs.all_fit.Tie as tie
 
 abbrev Inv-loop : tie.InvT-loop
-Inv-loop codes bits base i₀ i = (i ≤ length codes) × ((k : ℕ) → k < i → getD codes k 0 < 2 ^ bits)
+Inv-loop codes bits base fit₀ i₀ fit i = (i ≤ length codes) × (fit ≡ below (2 ^ bits) (take i codes))
 
 abbrev μ-loop : tie.MeasureT-loop
-μ-loop codes bits base i₀ i = length codes - i
+μ-loop codes bits base fit₀ i₀ fit i = length codes - i
 
 power-requires : tie.Need-power-requires Inv-loop μ-loop
 power-requires c κs = c .before .pre
 
 loop-holds : tie.Need-loop-holds Inv-loop μ-loop
-loop-holds c = (omega arith, below-none _)
+loop-holds c = (omega arith, refl)
 
-shared-slice-read-if1 : tie.Need-shared-slice-read-if1 Inv-loop μ-loop
-shared-slice-read-if1 c = omega arith
+shared-slice-read-fit : tie.Need-shared-slice-read-fit Inv-loop μ-loop
+shared-slice-read-fit c = omega arith
 
-cast-if1 : tie.Need-cast-if1 Inv-loop μ-loop
-cast-if1 c = omega (arith, c .shared-slice-known2 .given (c .before .before .loop .i))
-
-returns : tie.Need-returns Inv-loop μ-loop
-returns c =
-    let e = c .before .before .before in
-    let a = e .before .before .before .args in
-    sym (below-no (2 ^ a .bits) (a .codes .now) (e .loop .i) (c .before .before .loop-test .taken) (rw (e .before .power .ensures) at (c .if1 .taken)))
+cast-fit : tie.Need-cast-fit Inv-loop μ-loop
+cast-fit c = omega (arith, c .shared-slice-known2 .given (c .before .before .loop .i))
 
 add-i : tie.Need-add-i Inv-loop μ-loop
 add-i c = omega arith
@@ -40,13 +37,15 @@ loop-less c = omega arith
 
 loop-again : tie.Need-loop-again Inv-loop μ-loop
 loop-again c =
-    let e = c .before .before .before in
-    (omega arith, below-more _ _ (e .loop .inv .1) (rw (e .before .power .ensures) at (c .if1 .left)))
+    let a = c .before .before .before .before .before .args in
+    let at = c .before .before .loop in
+    let more = below-next (2 ^ a .bits) (now (a .codes)) (at .i) (omega arith) in
+    (omega arith, rw (at .inv .1, c .before .before .before .power .ensures, add-one (at .i)) (sym more))
 
-returns-2 : tie.Need-returns-2 Inv-loop μ-loop
-returns-2 c =
+returns : tie.Need-returns Inv-loop μ-loop
+returns c =
     let a = c .before .before .before .before .args in
-    sym (below-yes (2 ^ a .bits) (a .codes .now) (λ (k : ℕ) (l : k < length (a .codes .now)). c .before .loop .inv .1 k (omega arith)))
+    c .before .loop .inv .1 ∙ ap (below (2 ^ a .bits)) (take-all (c .before .loop .i) (now (a .codes)) (omega arith))
 
 pub all-fit-spec : {M : Type 1} → statement M
 all-fit-spec =
@@ -56,10 +55,9 @@ all-fit-spec =
     μ-loop
     power-requires
     loop-holds
-    shared-slice-read-if1
-    cast-if1
-    returns
+    shared-slice-read-fit
+    cast-fit
     add-i
     loop-less
     loop-again
-    returns-2)
+    returns)

@@ -1,68 +1,76 @@
--- `codes::put_codes` meets its contract. The invariant: after i codes the block has the first i codes, and above them what it had (`Filled`).
-use mathlib.Core.Path.{_≡_, _∙_}
-use Prim.Native.Nat.{_-_, _≤_}
+-- `codes::put_codes` meets its contract: the eights are packed by themselves, and so are the codes that are left over.
+use Prim.Native.Nat.{_*_, _/_, _≤_}
+use mathlib.Core.Path.{refl}
 use native.Mathlib.Omega.{arith}
+use borrow.Author.Needs.{needs}
 use lib.ListN.{length}
-use Rattle.digits.specs.Digits.{number, Below}
-use Rattle.codes.specs.Packing.{spare}
+use denote.Ref.{now}
 use Rattle.codes.proofs.Tests.{Packable, packable-of}
-use Rattle.codes.proofs.AllCodes.{Filled, filled-none, filled-more, filled-all}
+use Rattle.codes.proofs.Eights.{left-bytes, left-packable, left-written}
 use Rattle.codes.proofs.put_codes.Statement.{statement}
 use Rattle.codes.proofs.put_codes.Tie as tie
 
-abbrev Inv-loop : tie.InvT-loop
-Inv-loop block₀ codes bits i₀ block i =
-    (i ≤ length codes) × (length block ≡ length block₀) × Below 256 block × Filled bits codes (number 256 block₀) i block
+ok : (s : tie.Start) → Packable (s .args .bits) (now (s .args .codes)) (length (now (s .args .block)))
+ok s = packable-of _ _ _ (s .pre)
 
-abbrev μ-loop : tie.MeasureT-loop
-μ-loop block₀ codes bits i₀ block i = length codes - i
+put-eights-requires : tie.Need-put-eights-requires
+put-eights-requires c κs = c .before .before .before .pre
 
-ok : (c : tie.At-loop Inv-loop μ-loop) → let a = c .before .before .before .args in Packable (a .bits) (a .codes .now) (length (c .loop .block))
-ok c = rw (c .loop .inv .1) (packable-of _ _ _ (c .before .before .before .pre))
+mul-from : tie.Need-mul-from
+mul-from c = omega arith
 
-loop-holds : tie.Need-loop-holds Inv-loop μ-loop
-loop-holds c = (omega arith, omega arith, λ k. c .before .slice-known .given k .fits, filled-none _ _ _)
+within : (s : tie.Start) → s .args .bits * (length (now (s .args .codes)) / 8) ≤ length (now (s .args .block))
+within s = left-bytes (s .args .bits) (now (s .args .codes)) (now (s .args .block)) (ok s)
 
-shared-slice-read-pack-code : tie.Need-shared-slice-read-pack-code Inv-loop μ-loop
-shared-slice-read-pack-code c = omega arith
+mul-start : tie.Need-mul-start
+mul-start c = omega (arith, within (c .before .before .before .before .before .before))
 
-pack-code-requires : tie.Need-pack-code-requires Inv-loop μ-loop
-pack-code-requires c κs = tt
+sub-put-each : tie.Need-sub-put-each
+sub-put-each c = omega (arith, within (c .before .before .before .before .before .before), c .before .before .put-eights .kept)
 
-add-i : tie.Need-add-i Inv-loop μ-loop
-add-i c = omega arith
+part-put-each-start : tie.Need-part-put-each-start
+part-put-each-start c = omega (arith, within (c .before .before .before .before .before .before), c .before .before .put-eights .kept)
 
-loop-less : tie.Need-loop-less Inv-loop μ-loop
-loop-less c = omega arith
+part-put-each-end : tie.Need-part-put-each-end
+part-put-each-end c = omega arith
 
-loop-again : tie.Need-loop-again Inv-loop μ-loop
-loop-again c =
-    let e = c .before .before .before .before .before .before in
-    let call = c .before .before .pack-code in (
-      omega arith,
-      call .kept .0 ∙ e .loop .inv .1,
-      λ k. c .slice-known2 .given k .fits,
-      rw (call .ensures) (filled-more _ _ _ (ok e) _ _ (e .loop .inv .2) (c .before .before .before .before .before .loop-test .taken) (e .loop .inv .3)),
-    )
+sub-put-each-2 : tie.Need-sub-put-each-2
+sub-put-each-2 c = omega arith
 
-same-length : tie.Need-same-length Inv-loop μ-loop
-same-length c = c .before .loop .inv .1
+part-put-each-start-2 : tie.Need-part-put-each-start-2
+part-put-each-start-2 c = omega arith
 
-returns : tie.Need-returns Inv-loop μ-loop
-unfolding spare
-returns c = filled-all _ _ _ (ok (c .before)) _ _ (c .before .loop .inv .2) (omega arith) (c .before .loop .inv .3)
+part-put-each-end-2 : tie.Need-part-put-each-end-2
+part-put-each-end-2 c = omega arith
+
+put-each-requires : tie.Need-put-each-requires
+put-each-requires c κs =
+    let s = c .before .before .before .before .before .before .before .before in
+    let first = c .before .before .before .before .put-eights in
+    left-packable (s .args .bits) (now (s .args .codes)) (now (s .args .block)) (ok s) (first .last .0) (length (first .last .0)) (first .kept .0) refl
+
+same-length : tie.Need-same-length
+same-length c = search needs
+
+returns : tie.Need-returns
+returns c =
+    let s = c .before .before .before .before .before .before .before .before .before .before .before in
+    let first = c .before .before .before .before .before .before .before .put-eights in
+    left-written (s .args .bits) (now (s .args .codes)) (now (s .args .block)) (ok s) (first .last .0) (length (first .last .0)) (first .kept .0) refl (λ k. c .before .before .before .before .before .before .before .before .before .before .slice-known .given k .fits) (first .ensures) _ (c .before .before .put-each .ensures)
 
 pub put-codes-spec : {M : Type 1} → statement M
 put-codes-spec =
     tie.close
     (tie.spec
-    Inv-loop
-    μ-loop
-    loop-holds
-    shared-slice-read-pack-code
-    pack-code-requires
-    add-i
-    loop-less
-    loop-again
+    put-eights-requires
+    mul-from
+    mul-start
+    sub-put-each
+    part-put-each-start
+    part-put-each-end
+    sub-put-each-2
+    part-put-each-start-2
+    part-put-each-end-2
+    put-each-requires
     same-length
     returns)

@@ -1,12 +1,11 @@
 -- `compact::compact` meets its contract.
 use mathlib.Core.Path.{sym, ap, _∙_}
-use native.Mathlib.Omega.{arith}
 use borrow.Author.Needs.{needs}
 use Rattle.index.specs.Arrays.{Arrays, lent}
 use Rattle.index.specs.Step as Step
 use Rattle.index.proofs.Calls.{call-misfit}
 use Rattle.compact.specs.Gathered.{withKept}
-use Rattle.compact.proofs.Arrays.{few-slots, whole-size, first-room, marks-room, second-room, closed-up, compacted-call}
+use Rattle.compact.proofs.Arrays.{places-room, whole-size, first-room, marks-room, second-room, closed-up, compacted-call}
 use Rattle.compact.proofs.compact.Statement.{statement}
 use Rattle.compact.proofs.compact.Tie as tie
 
@@ -16,56 +15,40 @@ arrays s = lent (s .args .codes) (s .args .scales) (s .args .keys) (s .args .key
 fits-requires : tie.Need-fits-requires
 fits-requires c κs = search needs
 
-places-requires : tie.Need-places-requires
-places-requires c κs = search needs
-
-slice-aggregate-live-slots : tie.Need-slice-aggregate-live-slots
-slice-aggregate-live-slots c = search needs
-
 live-slots-requires : tie.Need-live-slots-requires
 live-slots-requires c κs =
-    let s = c .before .before .before .before .before .before .before .before .before .before .before .before .before .before .before .before .before .before .before .before .before in omega (arith, c .before .before .places .ok, few-slots (s .args .index) (arrays s) (sym (c .before .before .before .before .fits2 .ensures) ∙ c .before .before .before .if1 .taken))
+    let s = c .before .before .before .before .before .before .before .before .before .before .before .before .before .before .before .before .before .before .before .before in
+    let e = sym (c .before .before .before .fits2 .ensures) ∙ c .before .before .if1 .taken in
+    places-room (s .args .index) (arrays s) e
 
 block-size-requires : tie.Need-block-size-requires
 block-size-requires c κs = search needs
-
-slice-aggregate-gather-stage : tie.Need-slice-aggregate-gather-stage
-slice-aggregate-gather-stage c = search needs
 
 gather-stage-requires : tie.Need-gather-stage-requires
 gather-stage-requires c κs =
     let s = c .before .before .before .before .before .before .before .before .before .before .before .before .before .before .before .before .before .before .before .before .before .before .before .before .before .before .before in
     let e = sym (c .before .before .before .before .before .before .before .before .before .before .fits2 .ensures) ∙ c .before .before .before .before .before .before .before .before .before .if1 .taken in
-    let v = c .before .before .before .before .before .live-slots in
-    let p = c .before .before .before .before .before .before .before .before .places in
+    let v = c .before .before .before .before .before .before .live-slots .ensures in
     let w = whole-size (s .args .index) (arrays s) e _ (c .before .before .before .block-size .ensures) in
-    first-room (s .args .index) (arrays s) e (p .result) _ _ (omega (arith, p .ok, few-slots (s .args .index) (arrays s) e)) (v .ensures .1) (v .ensures .0) _ w
-
-slice-aggregate-gather-marks : tie.Need-slice-aggregate-gather-marks
-slice-aggregate-gather-marks c = search needs
-
-gather-marks-requires : tie.Need-gather-marks-requires
-gather-marks-requires c κs =
-    let s = c .before .before .before .before .before .before .before .before .before .before .before .before .before .before .before .before .before .before .before .before .before .before .before .before .before .before .before .before .before .before .before .before .before .before .before .before .before in
-    let e = sym (c .before .before .before .before .before .before .before .before .before .before .before .before .before .before .before .before .before .before .before .before .fits2 .ensures) ∙ c .before .before .before .before .before .before .before .before .before .before .before .before .before .before .before .before .before .before .before .if1 .taken in
-    let v = c .before .before .before .before .before .before .before .before .before .before .before .before .before .before .before .live-slots in
-    let p = c .before .before .before .before .before .before .before .before .before .before .before .before .before .before .before .before .before .before .places in
-    marks-room (s .args .index) (arrays s) e (p .result) _ _ (omega (arith, p .ok, few-slots (s .args .index) (arrays s) e)) (v .ensures .1) (v .ensures .0)
-
-slice-aggregate-gather-stage-2 : tie.Need-slice-aggregate-gather-stage-2
-slice-aggregate-gather-stage-2 c = search needs
+    first-room (s .args .index) (arrays s) e _ _ (v .1) (v .0) _ w
 
 second-stages-requires : tie.Need-second-stages-requires
 second-stages-requires c κs = search needs
 
 gather-stage-requires-2 : tie.Need-gather-stage-requires-2
 gather-stage-requires-2 c κs =
-    let s = c .before .before .before .before .before .before .before .before .before .before .before .before .before .before .before .before .before .before .before .before .before .before .before .before .before .before .before .before .before .before .before .before .before .before .before .before .before .before .before .before .before .before .before .before .before .before .before .before .before .before in
-    let e = sym (c .before .before .before .before .before .before .before .before .before .before .before .before .before .before .before .before .before .before .before .before .before .before .before .before .before .before .before .before .before .before .before .before .before .fits2 .ensures) ∙ c .before .before .before .before .before .before .before .before .before .before .before .before .before .before .before .before .before .before .before .before .before .before .before .before .before .before .before .before .before .before .before .before .if1 .taken in
-    let v = c .before .before .before .before .before .before .before .before .before .before .before .before .before .before .before .before .before .before .before .before .before .before .before .before .before .before .before .before .live-slots in
-    let p = c .before .before .before .before .before .before .before .before .before .before .before .before .before .before .before .before .before .before .before .before .before .before .before .before .before .before .before .before .before .before .before .places in
-    let w = whole-size (s .args .index) (arrays s) e _ (c .before .before .before .before .before .before .before .before .before .before .before .before .before .before .before .before .before .before .before .before .before .before .before .before .before .before .block-size .ensures) in
-    second-room (s .args .index) (arrays s) e (p .result) _ _ (omega (arith, p .ok, few-slots (s .args .index) (arrays s) e)) (v .ensures .1) (v .ensures .0) _ _ w (c .second-stages .ensures)
+    let s = c .before .before .before .before .before .before .before .before .before .before .before .before .before .before .before .before .before .before .before .before .before .before .before .before .before .before .before .before .before .before .before .before .before .before .before .before in
+    let e = sym (c .before .before .before .before .before .before .before .before .before .before .before .before .before .before .before .before .before .before .before .fits2 .ensures) ∙ c .before .before .before .before .before .before .before .before .before .before .before .before .before .before .before .before .before .before .if1 .taken in
+    let v = c .before .before .before .before .before .before .before .before .before .before .before .before .before .before .before .live-slots .ensures in
+    let w = whole-size (s .args .index) (arrays s) e _ (c .before .before .before .before .before .before .before .before .before .before .before .before .block-size .ensures) in
+    second-room (s .args .index) (arrays s) e _ _ (v .1) (v .0) _ _ w (c .second-stages .ensures)
+
+gather-marks-requires : tie.Need-gather-marks-requires
+gather-marks-requires c κs =
+    let s = c .before .before .before .before .before .before .before .before .before .before .before .before .before .before .before .before .before .before .before .before .before .before .before .before .before .before .before .before .before .before .before .before .before .before .before .before .before .before .before .before .before .before .before .before .before in
+    let e = sym (c .before .before .before .before .before .before .before .before .before .before .before .before .before .before .before .before .before .before .before .before .before .before .before .before .before .before .before .before .fits2 .ensures) ∙ c .before .before .before .before .before .before .before .before .before .before .before .before .before .before .before .before .before .before .before .before .before .before .before .before .before .before .before .if1 .taken in
+    let v = c .before .before .before .before .before .before .before .before .before .before .before .before .before .before .before .before .before .before .before .before .before .before .before .before .live-slots .ensures in
+    marks-room (s .args .index) (arrays s) e _ _ (v .1) (v .0)
 
 with-kept-requires : tie.Need-with-kept-requires
 with-kept-requires c κs = search needs
@@ -83,7 +66,7 @@ same-length-4 : tie.Need-same-length-4
 same-length-4 c = search needs
 
 same-length-5 : tie.Need-same-length-5
-same-length-5 c = search needs
+same-length-5 c = c .before .before .before .before .before .before .before .before .before .gather-marks .kept .1 .1 .0 ∙ c .before .before .before .before .before .before .before .before .before .before .before .before .before .before .before .before .before .before .before .before .before .before .before .before .before .before .before .before .before .before .before .before .before .before .live-slots .kept .1 .1 .0
 
 same-length-6 : tie.Need-same-length-6
 same-length-6 c = search needs
@@ -96,21 +79,20 @@ same-length-8 c = search needs
 
 returns : tie.Need-returns
 returns c =
-    let s = c .before .before .before .before .before .before .before .before .before .before .before .before .before .before .before .before .before .before .before .before .before .before .before .before .before .before .before .before .before .before .before .before .before .before .before .before .before .before .before .before .before .before .before .before .before .before .before .before .before .before .before .before .before .before .before .before in
-    let e = sym (c .before .before .before .before .before .before .before .before .before .before .before .before .before .before .before .before .before .before .before .before .before .before .before .before .before .before .before .before .before .before .before .before .before .before .before .before .before .before .before .fits2 .ensures) ∙ c .before .before .before .before .before .before .before .before .before .before .before .before .before .before .before .before .before .before .before .before .before .before .before .before .before .before .before .before .before .before .before .before .before .before .before .before .before .before .if1 .taken in
-    let v = c .before .before .before .before .before .before .before .before .before .before .before .before .before .before .before .before .before .before .before .before .before .before .before .before .before .before .before .before .before .before .before .before .before .before .live-slots in
-    let p = c .before .before .before .before .before .before .before .before .before .before .before .before .before .before .before .before .before .before .before .before .before .before .before .before .before .before .before .before .before .before .before .before .before .before .before .before .before .places in
-    let w = whole-size (s .args .index) (arrays s) e _ (c .before .before .before .before .before .before .before .before .before .before .before .before .before .before .before .before .before .before .before .before .before .before .before .before .before .before .before .before .before .before .before .before .block-size .ensures) in
-    let first = c .before .before .before .before .before .before .before .before .before .before .before .before .before .before .before .before .before .before .before .before .before .before .before .before .before .before .before .before .gather-stage .ensures in
-    let marks = c .before .before .before .before .before .before .before .before .before .before .before .before .before .before .before .before .before .before .gather-marks .ensures in
-    let second = c .before .before .before .before .before .gather-stage2 .ensures in
-    compacted-call (s .args .index) (arrays s) e _ _ (c .with-kept .ensures ∙ ap (withKept (s .args .index)) (v .ensures .0))
-    (closed-up (s .args .index) (arrays s) e _ (p .result) _ _ _ _ (omega (arith, p .ok, few-slots (s .args .index) (arrays s) e))
+    let s = c .before .before .before .before .before .before .before .before .before .before .before .before .before .before .before .before .before .before .before .before .before .before .before .before .before .before .before .before .before .before .before .before .before .before .before .before .before .before .before .before .before .before .before .before .before .before .before .before .before .before .before .before .before .before .before in
+    let e = sym (c .before .before .before .before .before .before .before .before .before .before .before .before .before .before .before .before .before .before .before .before .before .before .before .before .before .before .before .before .before .before .before .before .before .before .before .before .before .before .fits2 .ensures) ∙ c .before .before .before .before .before .before .before .before .before .before .before .before .before .before .before .before .before .before .before .before .before .before .before .before .before .before .before .before .before .before .before .before .before .before .before .before .before .if1 .taken in
+    let v = c .before .before .before .before .before .before .before .before .before .before .before .before .before .before .before .before .before .before .before .before .before .before .before .before .before .before .before .before .before .before .before .before .before .before .live-slots .ensures in
+    let w = whole-size (s .args .index) (arrays s) e _ (c .before .before .before .before .before .before .before .before .before .before .before .before .before .before .before .before .before .before .before .before .before .before .before .before .before .before .before .before .before .before .before .block-size .ensures) in
+    let first = c .before .before .before .before .before .before .before .before .before .before .before .before .before .before .before .before .before .before .before .before .before .before .before .before .before .before .before .gather-stage .ensures in
+    let second = c .before .before .before .before .before .before .before .before .before .before .before .before .before .before .before .before .before .before .gather-stage2 .ensures in
+    let marks = c .before .before .before .before .before .before .before .before .before .gather-marks .ensures in
+    compacted-call (s .args .index) (arrays s) e _ _ (c .with-kept .ensures ∙ ap (withKept (s .args .index)) (v .0))
+    (closed-up (s .args .index) (arrays s) e _ _ _ _ _
     (record {
-      listed = v .ensures .1;
-      many = v .ensures .0;
+      listed = v .1;
+      many = v .0;
       size-is = w;
-      second-is = c .before .before .before .before .before .before .second-stages .ensures;
+      second-is = c .before .before .before .before .before .before .before .before .before .before .before .before .before .before .before .before .before .before .before .second-stages .ensures;
       codes = first .0;
       scales = first .1;
       keys = marks .0;
@@ -154,17 +136,12 @@ compact-spec =
     tie.close
     (tie.spec
     fits-requires
-    places-requires
-    slice-aggregate-live-slots
     live-slots-requires
     block-size-requires
-    slice-aggregate-gather-stage
     gather-stage-requires
-    slice-aggregate-gather-marks
-    gather-marks-requires
-    slice-aggregate-gather-stage-2
     second-stages-requires
     gather-stage-requires-2
+    gather-marks-requires
     with-kept-requires
     same-length
     same-length-2

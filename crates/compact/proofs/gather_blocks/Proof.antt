@@ -1,7 +1,7 @@
 -- `compact::gather_blocks` meets its contract.
 use Prim.Native.Nat.{_-_}
 use native.Mathlib.Omega.{arith}
-use Rattle.compact.proofs.Gathering.{MovedBlocks, blocks-none, blocks-from, blocks-to, blocks-more, blocks-all}
+use Rattle.compact.proofs.Gathering.{MovedBlocks, block-number, blocks-none, blocks-from, blocks-to, blocks-more, blocks-all}
 use Rattle.compact.proofs.gather_blocks.Statement.{statement}
 use Rattle.compact.proofs.gather_blocks.Tie as tie
 
@@ -19,6 +19,9 @@ mul-slot c = omega (arith, c .before .before .before .before .pre .many)
 
 shared-slice-read-slot : tie.Need-shared-slice-read-slot Inv-loop μ-loop
 shared-slice-read-slot c = omega (arith, c .before .before .before .before .before .pre .many)
+
+cast-slot : tie.Need-cast-slot Inv-loop μ-loop
+cast-slot c = let s = c .before .before .before .before .before in omega (arith, block-number _ _ (s .args .size) (s .args .codes .now) (s .pre) (c .before .before .loop .i) (c .before .loop-test .taken))
 
 mul-move-bytes : tie.Need-mul-move-bytes Inv-loop μ-loop
 mul-move-bytes c = omega (arith, blocks-from _ _ _ _ (c .before .before .before .before .before .before .pre) (c .before .before .before .loop .inv) (c .before .before .loop-test .taken))
@@ -53,6 +56,7 @@ gather-blocks-spec =
     loop-holds
     mul-slot
     shared-slice-read-slot
+    cast-slot
     mul-move-bytes
     mul-move-bytes-2
     move-bytes-requires

@@ -21,6 +21,9 @@ mul-slot c = omega (arith, c .before .before .pre .many)
 shared-slice-read-slot : tie.Need-shared-slice-read-slot Inv-loop μ-loop
 shared-slice-read-slot c = omega (arith, c .before .before .before .pre .many)
 
+cast-slot : tie.Need-cast-slot Inv-loop μ-loop
+cast-slot c = omega (arith, c .before .before .before .pre .below _ (c .before .loop-test .taken))
+
 slice-read-xs : tie.Need-slice-read-xs Inv-loop μ-loop
 slice-read-xs c = moved-from _ _ _ _ (c .before .before .before .before .pre) (c .before .before .before .loop .inv) (c .before .before .loop-test .taken)
 
@@ -51,6 +54,7 @@ gather-bool-spec =
     loop-holds
     mul-slot
     shared-slice-read-slot
+    cast-slot
     slice-read-xs
     slice-write-xs
     add-i

@@ -31,8 +31,8 @@ same-length-4 c = search needs
 
 returns : tie.Need-returns
 returns c =
-    let few = c .before .before .before .before .before .before .before .before .before .before .before .before .before .before .before .before .before .before .before .before .before .before .before .pre .1 in
-    (c .before .before .before .before .before .before .before .before .before .before .before .before .before .before .before .before .gather-u64 .ensures, (c .before .before .before .before .before .before .before .before .before .before .before .before .gather-bool .ensures, (c .before .before .before .before .before .before .restore-order .ensures ∙ in-place _ _ _ _ (few .2) (few .0), c .before .before .mark-live .ensures)))
+    let s = c .before .before .before .before .before .before .before .before .before .before .before .before .before .before .before .before .before .before .before .before .before .before .before .before in
+    (c .before .before .before .before .before .before .before .before .before .before .before .before .before .before .before .before .before .gather-u64 .ensures, (c .before .before .before .before .before .before .before .before .before .before .before .before .gather-bool .ensures, (c .before .before .before .before .before .before .restore-order .ensures ∙ in-place _ _ _ _ (s .pre .1 .1) (s .pre .0 .0 .many), c .before .before .mark-live .ensures)))
 
 pub gather-marks-spec : {M : Type 1} → statement M
 gather-marks-spec =

@@ -20,6 +20,9 @@ mul-slot c = omega (arith, c .before .before .pre .many)
 shared-slice-read-slot : tie.Need-shared-slice-read-slot Inv-loop μ-loop
 shared-slice-read-slot c = omega (arith, c .before .before .before .pre .many)
 
+cast-slot : tie.Need-cast-slot Inv-loop μ-loop
+cast-slot c = omega (arith, c .before .before .before .pre .below _ (c .before .loop-test .taken))
+
 mul-xs : tie.Need-mul-xs Inv-loop μ-loop
 mul-xs c = omega (arith, c .before .before .before .pre .below _ (c .before .loop-test .taken))
 
@@ -56,6 +59,7 @@ gather-u64-spec =
     loop-holds
     mul-slot
     shared-slice-read-slot
+    cast-slot
     mul-xs
     slice-read-xs
     mul-xs-2

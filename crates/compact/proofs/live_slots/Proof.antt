@@ -14,19 +14,22 @@ abbrev μ-loop : tie.MeasureT-loop
 μ-loop alive n slots₀ many₀ i₀ slots many i = n - i
 
 loop-holds : tie.Need-loop-holds Inv-loop μ-loop
-loop-holds c = listed-none _ _ _ (c .before .before .pre)
+loop-holds c = listed-none _ _ _ (c .before .before .pre .0)
 
 live-mark-requires : tie.Need-live-mark-requires Inv-loop μ-loop
 live-mark-requires c κs = search needs
 
 mul-slots : tie.Need-mul-slots Inv-loop μ-loop
-mul-slots c = omega (arith, listed-few _ _ _ (c .before .before .before .before .before .before .pre) (c .before .before .before .loop .inv))
+mul-slots c = omega (arith, listed-few _ _ _ (c .before .before .before .before .before .before .pre .0) (c .before .before .before .loop .inv))
+
+cast-slots : tie.Need-cast-slots Inv-loop μ-loop
+cast-slots c = omega (arith, c .before .before .before .before .before .before .pre .1)
 
 slice-write-slots : tie.Need-slice-write-slots Inv-loop μ-loop
-slice-write-slots c = omega (arith, listed-few _ _ _ (c .before .before .before .before .before .before .pre) (c .before .before .before .loop .inv), listed-length _ _ _ (c .before .before .before .before .before .before .pre) (c .before .before .before .loop .inv))
+slice-write-slots c = omega (arith, listed-few _ _ _ (c .before .before .before .before .before .before .pre .0) (c .before .before .before .loop .inv), listed-length _ _ _ (c .before .before .before .before .before .before .pre .0) (c .before .before .before .loop .inv))
 
 add-many : tie.Need-add-many Inv-loop μ-loop
-add-many c = omega (arith, listed-few _ _ _ (c .before .before .before .before .before .before .pre) (c .before .before .before .loop .inv))
+add-many c = omega (arith, listed-few _ _ _ (c .before .before .before .before .before .before .pre .0) (c .before .before .before .loop .inv))
 
 add-i : tie.Need-add-i Inv-loop μ-loop
 add-i c = omega arith
@@ -40,13 +43,13 @@ loop-again c =
     let m = c .before .before .before .loop .inv in
     let l = c .before .before .loop-test .taken in
     let e = c .before .live-mark .ensures in
-    ⊎-elim (λ w. rw (w .1, w .2) (listed-more _ _ _ (s .pre) m l (rw e at (w .0 .taken)))) (λ w. rw (w .1, w .2) (listed-same _ _ _ (s .pre) m l (rw e at (w .0 .left)))) (c .if1 .came)
+    ⊎-elim (λ w. rw (w .1, w .2) (listed-more _ _ _ (s .pre .0) m l (rw e at (w .0 .taken)))) (λ w. rw (w .1, w .2) (listed-same _ _ _ (s .pre .0) m l (rw e at (w .0 .left)))) (c .if1 .came)
 
 same-length : tie.Need-same-length Inv-loop μ-loop
-same-length c = listed-length _ _ _ (c .before .before .before .before .pre) (c .before .loop .inv)
+same-length c = listed-length _ _ _ (c .before .before .before .before .pre .0) (c .before .loop .inv)
 
 returns : tie.Need-returns Inv-loop μ-loop
-returns c = let m = listed-all _ _ _ (c .before .before .before .before .pre) (c .before .loop .inv) (c .loop-test .left) in (m .count, m .written)
+returns c = let m = listed-all _ _ _ (c .before .before .before .before .pre .0) (c .before .loop .inv) (c .loop-test .left) in (m .count, m .written)
 
 pub live-slots-spec : {M : Type 1} → statement M
 live-slots-spec =
@@ -56,6 +59,7 @@ live-slots-spec =
     μ-loop
     loop-holds
     live-mark-requires
+    cast-slots
     mul-slots
     slice-write-slots
     add-many

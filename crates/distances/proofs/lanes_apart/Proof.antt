@@ -1,65 +1,57 @@
--- `distances::lanes_apart` meets its contract. The invariant: the sum over the lanes before i.
-use Prim.Native.Nat.{_-_, _<_}
+-- `distances::lanes_apart` meets its contract.
+use mathlib.Core.Path.{_≡_}
+use Prim.Native.Nat.{_+_}
 use native.Mathlib.Omega.{arith}
-use lib.ListN.{getD}
+use denote.Ref.{now}
 use borrow.Author.Needs.{needs}
-use Rattle.distances.proofs.Lanes.{Summed, summed-none, lane-low, summed-more, summed-all}
+use Rattle.distances.specs.Lanes.{lanesApart}
+use Rattle.distances.proofs.Lanes.{lanes-most}
+use Rattle.distances.proofs.Pairs.{pairs-fewer, bytes-lanes}
 use Rattle.distances.proofs.lanes_apart.Statement.{statement}
 use Rattle.distances.proofs.lanes_apart.Tie as tie
 
-abbrev Inv-loop : tie.InvT-loop
-Inv-loop tops block lanes sum₀ i₀ sum i = Summed tops block lanes sum i
+whole-bytes-requires : tie.Need-whole-bytes-requires
+whole-bytes-requires c κs = search needs
 
-abbrev μ-loop : tie.MeasureT-loop
-μ-loop tops block lanes sum₀ i₀ sum i = lanes - i
+bytes-apart-requires : tie.Need-bytes-apart-requires
+bytes-apart-requires c κs =
+    let s = c .before .before .before .before .before in
+    let n = c .whole-bytes .ensures in
+    (omega (arith, s .pre .0, n .1), n .0, pairs-fewer (s .pre .2 .pairs) _ (n .1))
 
-loop-holds : tie.Need-loop-holds Inv-loop μ-loop
-loop-holds c = summed-none _ _ _
+mul-rest-apart : tie.Need-mul-rest-apart
+mul-rest-apart c = search needs
 
-shared-slice-read-apart : tie.Need-shared-slice-read-apart Inv-loop μ-loop
-shared-slice-read-apart c = omega arith
+rest-apart-requires : tie.Need-rest-apart-requires
+rest-apart-requires c κs = search needs
 
-unpack-code-requires : tie.Need-unpack-code-requires Inv-loop μ-loop
-unpack-code-requires c κs = search needs
+whole : (c : tie.After-rest-apart) →
+    let s = c .before .before .before .before .before .before .before in
+    c .before .bytes-apart .result + c .rest-apart .result ≡ lanesApart (now (s .args .tops)) (now (s .args .block)) (s .args .lanes)
+whole c =
+    let s = c .before .before .before .before .before .before .before in
+    omega (
+      arith,
+      c .rest-apart .ensures,
+      c .before .bytes-apart .ensures,
+      bytes-lanes (s .pre .2) (now (s .args .block)) (λ k. c .before .before .before .shared-slice-known4 .given k .fits) _ (c .before .before .whole-bytes .ensures .1),
+    )
 
-apart-requires : tie.Need-apart-requires Inv-loop μ-loop
-apart-requires c κs = search needs
+add-result : tie.Need-add-result
+add-result c =
+    let s = c .before .before .before .before .before .before .before in
+    omega (arith, s .pre .0, whole c, lanes-most (now (s .args .tops)) (now (s .args .block)) (s .args .lanes) (λ k. c .before .before .before .before .before .before .shared-slice-known .given k .fits))
 
-byte : (c : tie.After-apart Inv-loop μ-loop) →
-    getD (c .before .before .before .before .before .before .before .args .tops .now) (c .before .before .before .before .loop .i) 0 < 256
-byte c = omega (arith, c .before .before .shared-slice-known3 .given (c .before .before .before .before .loop .i))
-
-add-sum : tie.Need-add-sum Inv-loop μ-loop
-add-sum c =
-    let m = c .before .before .before .before .loop in
-    omega (arith, m .inv .low, lane-low (m .inv) (c .before .before .before .loop-test .taken) _ _ (c .before .unpack-code .ensures) (c .apart .ensures) (byte c))
-
-add-i : tie.Need-add-i Inv-loop μ-loop
-add-i c = omega arith
-
-loop-less : tie.Need-loop-less Inv-loop μ-loop
-loop-less c = omega arith
-
-loop-again : tie.Need-loop-again Inv-loop μ-loop
-loop-again c =
-    summed-more (c .before .before .before .before .loop .inv) (c .before .before .before .loop-test .taken) _ _ (c .before .unpack-code .ensures)
-    (c .apart .ensures) (byte c)
-
-returns : tie.Need-returns Inv-loop μ-loop
-returns c = summed-all (c .before .loop .inv) (c .loop-test .left)
+returns : tie.Need-returns
+returns c = whole c
 
 pub lanes-apart-spec : {M : Type 1} → statement M
 lanes-apart-spec =
     tie.close
     (tie.spec
-    Inv-loop
-    μ-loop
-    loop-holds
-    shared-slice-read-apart
-    unpack-code-requires
-    apart-requires
-    add-sum
-    add-i
-    loop-less
-    loop-again
+    whole-bytes-requires
+    bytes-apart-requires
+    mul-rest-apart
+    rest-apart-requires
+    add-result
     returns)

@@ -4,7 +4,7 @@ use native.Mathlib.Omega.{arith}
 use lib.ListN.{length}
 use denote.Ref.{now}
 use Rattle.index.specs.State.{headerOf}
-use Rattle.distances.proofs.Distance.{measurable-of, slots-measured}
+use Rattle.distances.proofs.Distance.{measurable-of, tops-low, slots-measured}
 use borrow.Author.Needs.{needs}
 use Rattle.distances.proofs.measure.Statement.{statement}
 use Rattle.distances.proofs.measure.Tie as tie
@@ -46,10 +46,15 @@ slice-aggregate-write-distances c = search needs
 write-distances-requires : tie.Need-write-distances-requires
 write-distances-requires c κs =
     let tops = c .before .before .before in
-    let padded = tops .before .before .before .before .before .before .before .before .before in
+    let prepared = tops .before .before .before .before .before in
+    let padded = prepared .before .before .before .before in
     let m = measurable-of _ _ _ _ _ (padded .before .before .before .before .before .pre) in
-    let lanes = padded .padded-dim .ensures in
-    (omega (arith, m .lanes, lanes), omega (arith, m .lanes, lanes, tops .before .before .before .bytes .ok, tops .write-tops .kept), m .room)
+    let lanes = padded .padded-dim .ensures in (
+      omega (arith, m .lanes, lanes),
+      omega (arith, m .lanes, lanes, tops .before .before .before .bytes .ok, tops .write-tops .kept),
+      tops-low (prepared .prepare .last .1 .1 .1 .0) _ _ (tops .before .before .before .bytes .result) _ (tops .write-tops .ensures),
+      m .room,
+    )
 
 same-length : tie.Need-same-length
 same-length c = search needs

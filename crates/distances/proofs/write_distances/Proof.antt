@@ -1,58 +1,64 @@
 -- `distances::write_distances` meets its contract.
-use Prim.Native.Nat.{_-_}
 use native.Mathlib.Omega.{arith}
-use Rattle.held_order.proofs.Writing.{Written, written-none, written-more, written-all}
-use Rattle.distances.specs.Lanes.{slotApart}
+use borrow.Author.Needs.{needs}
+use Rattle.distances.proofs.Pairs.{split-tops}
 use Rattle.distances.proofs.write_distances.Statement.{statement}
 use Rattle.distances.proofs.write_distances.Tie as tie
 
-abbrev Inv-loop : tie.InvT-loop
-Inv-loop codes alive size n tops lanes distances₀ i₀ distances i = Written (slotApart codes alive size tops lanes) n i distances₀ distances
+bytes-requires : tie.Need-bytes-requires
+bytes-requires c κs = search needs
 
-abbrev μ-loop : tie.MeasureT-loop
-μ-loop codes alive size n tops lanes distances₀ i₀ distances i = n - i
+slice-aggregate-every-second : tie.Need-slice-aggregate-every-second
+slice-aggregate-every-second c = search needs
 
-loop-holds : tie.Need-loop-holds Inv-loop μ-loop
-loop-holds c = written-none _ _ _ (c .before .before .before .before .pre .2)
+every-second-requires : tie.Need-every-second-requires
+every-second-requires c κs = search needs
 
-slot-distance-requires : tie.Need-slot-distance-requires Inv-loop μ-loop
-slot-distance-requires c κs = (c .before .before .before .before .before .before .pre .0, c .before .before .before .before .before .before .pre .1)
+bytes-requires-2 : tie.Need-bytes-requires-2
+bytes-requires-2 c κs = search needs
 
-mul-distances : tie.Need-mul-distances Inv-loop μ-loop
-mul-distances c = omega (arith, c .before .before .loop .inv .same)
+slice-aggregate-every-second-2 : tie.Need-slice-aggregate-every-second-2
+slice-aggregate-every-second-2 c = search needs
 
-slice-write-distances : tie.Need-slice-write-distances Inv-loop μ-loop
-slice-write-distances c = omega (arith, c .before .before .loop .inv .same)
+every-second-requires-2 : tie.Need-every-second-requires-2
+every-second-requires-2 c κs = search needs
 
-add-i : tie.Need-add-i Inv-loop μ-loop
-add-i c = omega arith
+slice-aggregate-write-in-pairs : tie.Need-slice-aggregate-write-in-pairs
+slice-aggregate-write-in-pairs c = search needs
 
-loop-less : tie.Need-loop-less Inv-loop μ-loop
-loop-less c = omega arith
+slice-aggregate-write-in-pairs-2 : tie.Need-slice-aggregate-write-in-pairs-2
+slice-aggregate-write-in-pairs-2 c = search needs
 
-loop-again : tie.Need-loop-again Inv-loop μ-loop
-loop-again c =
-    rw (c .slot-distance .ensures)
-    (written-more _ _ _ (c .before .before .before .before .before .before .before .pre .2) (c .before .before .loop .inv) (c .before .loop-test .taken))
+write-in-pairs-requires : tie.Need-write-in-pairs-requires
+write-in-pairs-requires c κs =
+    let odd = c .before .before .before .before in
+    let even = odd .before .before .before .before in
+    let s = even .before .before .before .before .before .before .before in (
+      s .pre .0,
+      s .pre .1,
+      split-tops _ _ _ _ _ _ (s .pre .2) (omega (arith, s .pre .0, even .before .before .bytes .ok, even .every-second .kept))
+          (omega (arith, s .pre .0, odd .before .before .bytes2 .ok, odd .every-second2 .kept)) (even .every-second .ensures) (odd .every-second2 .ensures),
+      s .pre .3,
+    )
 
-same-length : tie.Need-same-length Inv-loop μ-loop
-same-length c = c .before .loop .inv .same
+same-length : tie.Need-same-length
+same-length c = search needs
 
-returns : tie.Need-returns Inv-loop μ-loop
-returns c = written-all _ _ _ (c .before .before .before .before .before .before .pre .2) (c .before .loop .inv) (c .loop-test .left)
+returns : tie.Need-returns
+returns c = search needs
 
 pub write-distances-spec : {M : Type 1} → statement M
 write-distances-spec =
     tie.close
     (tie.spec
-    Inv-loop
-    μ-loop
-    loop-holds
-    slot-distance-requires
-    mul-distances
-    slice-write-distances
-    add-i
-    loop-less
-    loop-again
+    bytes-requires
+    slice-aggregate-every-second
+    every-second-requires
+    bytes-requires-2
+    slice-aggregate-every-second-2
+    every-second-requires-2
+    slice-aggregate-write-in-pairs
+    slice-aggregate-write-in-pairs-2
+    write-in-pairs-requires
     same-length
     returns)

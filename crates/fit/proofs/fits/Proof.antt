@@ -4,9 +4,9 @@ use native.Mathlib.Omega.{arith}
 use borrow.Author.Needs.{needs}
 use Rattle.index.specs.Arrays.{Arrays, lent}
 use Rattle.index.specs.State.{headerOf}
-use Rattle.positions.proofs.Decides.{same, decides-false}
+use Rattle.position_tree.proofs.Decides.{same, decides-false}
 use Rattle.positions.proofs.Slots.{positions-meaning}
-use Rattle.fit.proofs.Rooms.{in-width, keys-room}
+use Rattle.fit.proofs.Rooms.{in-width, enough, keys-room}
 use Rattle.fit.proofs.Meaning.{meaning}
 use Rattle.fit.proofs.fits.Statement.{statement}
 use Rattle.fit.proofs.fits.Tie as tie
@@ -31,7 +31,8 @@ marks-fit-requires c κs =
     let s = c .before .before .before .before .before .before .before .before .before .before .before .before in
     let g = c .before .before .before .fields-fit .ensures .yes (c .before .before .if1 .taken) in
     let e = c .before .capacity .ensures ∙ in-width _ _ (g .bits) (g .bits-high) in
-    keys-room (headerOf (s .args .index)) (arrays s) (s .args .index .n) (omega (arith, e, c .if2 .left)) .keyed
+    let room = enough (headerOf (s .args .index)) (arrays s) (s .args .index .n) (omega (arith, e, c .if2 .left)) in
+    (room .few, room .keyed, room .alive)
 
 positions-fit-requires : tie.Need-positions-fit-requires
 positions-fit-requires c κs = search needs

@@ -1,87 +1,81 @@
 -- `fit::marks_fit` meets its contract.
-use mathlib.Core.Path.{_≡_, refl, sym, _∙_}
-use Prim.Native.Nat.{ℕ, _-_, _≤_, _<_}
-use native.Mathlib.Numerals.{add-one}
+use mathlib.Core.Path.{sym, _∙_}
+use native.Mathlib.Nat.{sub-zero}
 use native.Mathlib.Omega.{arith}
-use lib.ListN.{getD}
-use mathlib.Core.Bool.{false}
-use borrow.Author.Count.{below-more}
-use borrow.Author.Needs.{needs}
+use lib.Seq.{length-take-le}
+use Rattle.position_tree.specs.Decides.{Decides}
+use Rattle.fit.specs.Fits.{EachMarked}
 use borrow.Author.Tests.{eqb-true, eq-eqb}
-use Rattle.fit.specs.Fits.{Marked, liveMarks}
-use Rattle.positions.proofs.Decides.{fails, decided}
-use Rattle.fit.proofs.Marks.{live-more}
+use Rattle.position_tree.proofs.Decides.{fails, decided}
+use Rattle.fit.proofs.Marks.{front-each, front-low, front-live}
+use borrow.Author.Needs.{needs}
 use Rattle.fit.proofs.marks_fit.Statement.{statement}
 use Rattle.fit.proofs.marks_fit.Tie as tie
 
-abbrev Inv-loop : tie.InvT-loop
-Inv-loop keyed alive n live many₀ i₀ many i =
-    (i ≤ n) × (many ≤ i) × (many ≡ liveMarks alive i) × ((j : ℕ) → j < i → Marked (getD keyed j false) (getD alive j 0))
+sub-each-fits : tie.Need-sub-each-fits
+sub-each-fits c = search needs
 
-abbrev μ-loop : tie.MeasureT-loop
-μ-loop keyed alive n live many₀ i₀ many i = n - i
+part-each-fits-start : tie.Need-part-each-fits-start
+part-each-fits-start c = search needs
 
-loop-holds : tie.Need-loop-holds Inv-loop μ-loop
-loop-holds c = (omega arith, omega arith, refl, λ j l. absurd (omega arith))
+part-each-fits-end : tie.Need-part-each-fits-end
+part-each-fits-end c = search needs
 
-live-mark-requires : tie.Need-live-mark-requires Inv-loop μ-loop
-live-mark-requires c κs = search needs
+sub-each-fits-2 : tie.Need-sub-each-fits-2
+sub-each-fits-2 c = search needs
 
-mark-fits-requires : tie.Need-mark-fits-requires Inv-loop μ-loop
-mark-fits-requires c κs = search needs
+part-each-fits-start-2 : tie.Need-part-each-fits-start-2
+part-each-fits-start-2 c = search needs
 
-cast-many : tie.Need-cast-many Inv-loop μ-loop
-cast-many c = let m = c .before .mark-fits .ensures .yes (c .if1 .taken) .low in record { fits = omega arith }
+part-each-fits-end-2 : tie.Need-part-each-fits-end-2
+part-each-fits-end-2 c = search needs
 
-add-many : tie.Need-add-many Inv-loop μ-loop
-add-many c =
-    let m = c .before .mark-fits .ensures .yes (c .if1 .taken) .low in
-    let v = c .before .before .before .before .loop .inv in
-    record { fits = omega (arith, m, v .1, c .before .before .before .loop-test .taken, c .before .before .before .before .before .before .before .fits .n) }
+each-fits-requires : tie.Need-each-fits-requires
+each-fits-requires c κs = search needs
 
-add-i : tie.Need-add-i Inv-loop μ-loop
-add-i c = search needs
+sub-live-total : tie.Need-sub-live-total
+sub-live-total c = search needs
 
-loop-less : tie.Need-loop-less Inv-loop μ-loop
-loop-less c = search needs
+part-live-total-start : tie.Need-part-live-total-start
+part-live-total-start c = search needs
 
-loop-again : tie.Need-loop-again Inv-loop μ-loop
-loop-again c =
-    let v = c .before .before .before .before .loop .inv in
-    let i = c .before .before .before .before .loop .i in
-    let e = c .before .before .live-mark .ensures in
-    let m = rw e at (c .before .mark-fits .ensures .yes (c .if1 .taken)) in (
-      omega (arith, c .before .before .before .loop-test .taken),
-      omega (arith, v .1, m .low, e),
-      rw (add-one i, live-more (c .before .before .before .before .before .before .before .args .alive .now) i (m .low), e, v .2),
-      below-more _ _ (v .3) m,
-    )
+part-live-total-end : tie.Need-part-live-total-end
+part-live-total-end c = search needs
 
-returns : tie.Need-returns Inv-loop μ-loop
+-- what the answer of `each_fits` says of the first n slots
+each : (c : tie.After-each-fits) → let s = c .before .before .before .before .before in Decides (c .each-fits .result) (EachMarked (s .args .keyed .now) (s .args .alive .now) (s .args .n))
+each c = let s = c .before .before .before .before .before in front-each _ _ (s .args .n) (s .pre .1) (rw (sub-zero (s .args .n)) at (c .each-fits .ensures))
+
+live-total-requires : tie.Need-live-total-requires
+live-total-requires c κs =
+    let s = c .before .before .before .before .before .before .before in
+    let n = s .args .n in
+    let marks = s .args .alive .now in
+    rw (sub-zero n) (omega (arith, length-take-le n marks (s .pre .2), s .pre .0), front-low (s .args .keyed .now) marks n (s .pre .2) (each (c .before .before) .yes (c .before .if1 .taken)))
+
+returns : tie.Need-returns
 returns c =
-    fails (λ f. c .before .mark-fits .ensures .no (c .if1 .left) (rw (c .before .before .live-mark .ensures) (f .slot _ (c .before .before .before .loop-test .taken))))
+    let s = c .before .before .before .before .before .before .before .before in
+    let e = rw (sub-zero (s .args .n)) at (c .live-total .ensures) ∙ front-live (s .args .keyed .now) (s .args .alive .now) (s .args .n) (s .pre .2) in
+    decided _ (λ t. record { slot = each (c .before .before .before) .yes (c .before .before .if1 .taken); count = sym (eqb-true _ _ t) ∙ e }) (λ f. eq-eqb _ _ (e ∙ sym (f .count)))
 
-returns-2 : tie.Need-returns-2 Inv-loop μ-loop
-returns-2 c =
-    let v = c .before .loop .inv in
-    let e : c .before .loop .i ≡ c .before .before .before .before .args .n = omega (arith, v .0, c .loop-test .left) in
-    decided _
-    (λ t. record { slot = rw e at (v .3); count = sym (eqb-true _ _ t) ∙ (rw e at (v .2)) })
-    (λ f. eq-eqb _ _ ((rw e at (v .2)) ∙ sym (f .count)))
+returns-2 : tie.Need-returns-2
+returns-2 c = fails (λ f. each (c .before) .no (c .if1 .left) (f .slot))
 
 pub marks-fit-spec : {M : Type 1} → statement M
 marks-fit-spec =
     tie.close
     (tie.spec
-    Inv-loop
-    μ-loop
-    loop-holds
-    live-mark-requires
-    mark-fits-requires
-    cast-many
-    add-many
-    add-i
-    loop-less
-    loop-again
+    sub-each-fits
+    part-each-fits-start
+    part-each-fits-end
+    sub-each-fits-2
+    part-each-fits-start-2
+    part-each-fits-end-2
+    each-fits-requires
+    sub-live-total
+    part-live-total-start
+    part-live-total-end
+    live-total-requires
     returns
     returns-2)

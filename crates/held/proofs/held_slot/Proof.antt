@@ -1,63 +1,66 @@
 -- `held::held_slot` meets its contract.
-use mathlib.Core.Path.{_≡_, refl, sym, _∙_}
-use mathlib.Core.List.{[]}
-use mathlib.Core.Bool.{Bool}
-use Prim.Native.Nat.{ℕ, _-_, _≤_}
-use native.Mathlib.Omega.{arith}
+use mathlib.Core.Path.{_∙_}
+use native.Mathlib.Nat.{sub-zero}
 use borrow.Author.Needs.{needs}
-use Rattle.lists.specs.Keep.{keep}
-use Rattle.held.specs.Held.{below, slotHolds}
-use Rattle.held.proofs.Scan.{none-more, first-is, none-is}
+use Rattle.held.proofs.Scan.{front-slot}
 use Rattle.held.proofs.held_slot.Statement.{statement}
 use Rattle.held.proofs.held_slot.Tie as tie
 
-abbrev Inv-loop : tie.InvT-loop
-Inv-loop keys keyed held n key position i₀ i = (i ≤ n) × (keep (slotHolds keys keyed held key position) (below i) ≡ [])
+sub-find-slot : tie.Need-sub-find-slot
+sub-find-slot c = search needs
 
-abbrev μ-loop : tie.MeasureT-loop
-μ-loop keys keyed held n key position i₀ i = n - i
+part-find-slot-start : tie.Need-part-find-slot-start
+part-find-slot-start c = search needs
 
-abbrev passes : tie.Start Inv-loop μ-loop → ℕ → Bool
-passes s = slotHolds (s .args .keys .now) (s .args .keyed .now) (s .args .held .now) (s .args .key) (s .args .position)
+part-find-slot-end : tie.Need-part-find-slot-end
+part-find-slot-end c = search needs
 
-loop-holds : tie.Need-loop-holds Inv-loop μ-loop
-loop-holds c = (omega arith, refl)
+sub-find-slot-2 : tie.Need-sub-find-slot-2
+sub-find-slot-2 c = search needs
 
-holds-position-requires : tie.Need-holds-position-requires Inv-loop μ-loop
-holds-position-requires c κs = search needs
+part-find-slot-start-2 : tie.Need-part-find-slot-start-2
+part-find-slot-start-2 c = search needs
 
-returns : tie.Need-returns Inv-loop μ-loop
+part-find-slot-end-2 : tie.Need-part-find-slot-end-2
+part-find-slot-end-2 c = search needs
+
+sub-find-slot-3 : tie.Need-sub-find-slot-3
+sub-find-slot-3 c = search needs
+
+part-find-slot-start-3 : tie.Need-part-find-slot-start-3
+part-find-slot-start-3 c = search needs
+
+part-find-slot-end-3 : tie.Need-part-find-slot-end-3
+part-find-slot-end-3 c = search needs
+
+find-slot-requires : tie.Need-find-slot-requires
+find-slot-requires c κs = search needs
+
+returns : tie.Need-returns
 returns c =
-    let e = sym (c .before .holds-position .ensures) ∙ c .if1 .taken in
-    sym (first-is _ _ _ (c .before .before .loop-test .taken) (c .before .before .before .loop .inv .1) e)
+    let s = c .before .before .before .before .before .before .before .before .before .before in
+    rw (sub-zero (s .args .n)) at (c .find-slot .ensures) ∙ front-slot (s .args .keys .now) (s .args .keyed .now) (s .args .n) (s .args .key) (s .args .held .now) (s .args .position)
 
-add-i : tie.Need-add-i Inv-loop μ-loop
-add-i c = search needs
+find-slot-requires-2 : tie.Need-find-slot-requires-2
+find-slot-requires-2 c κs = search needs
 
-loop-less : tie.Need-loop-less Inv-loop μ-loop
-loop-less c = search needs
-
-loop-again : tie.Need-loop-again Inv-loop μ-loop
-loop-again c =
-    let s = c .before .before .before .before .before .before .before in
-    let last = c .before .before .before .loop in (
-      omega (arith, c .before .before .loop-test .taken),
-      none-more (passes s) (last .i) (last .inv .1) (sym (c .before .holds-position .ensures) ∙ c .if1 .left),
-    )
-
-returns-2 : tie.Need-returns-2 Inv-loop μ-loop
-returns-2 c = sym (none-is _ _ _ (c .before .loop .inv .0) (c .loop-test .left) (c .before .loop .inv .1))
+returns-2 : tie.Need-returns-2
+returns-2 c = search needs
 
 pub held-slot-spec : {M : Type 1} → statement M
 held-slot-spec =
     tie.close
     (tie.spec
-    Inv-loop
-    μ-loop
-    loop-holds
-    holds-position-requires
+    sub-find-slot
+    part-find-slot-start
+    part-find-slot-end
+    sub-find-slot-2
+    part-find-slot-start-2
+    part-find-slot-end-2
+    sub-find-slot-3
+    part-find-slot-start-3
+    part-find-slot-end-3
+    find-slot-requires
     returns
-    add-i
-    loop-less
-    loop-again
+    find-slot-requires-2
     returns-2)

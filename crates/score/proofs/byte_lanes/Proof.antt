@@ -1,11 +1,16 @@
 use Prim.Native.Nat.{_-_}
 use borrow.Author.Needs.{needs}
-use Rattle.score.proofs.Bytes.{InEight, eight-start, eight-again, eight-end}
+use native.Mathlib.Omega.{arith}
+use denote.Ref.{now}
+use Rattle.score.specs.Score.{byteTerms}
+use Rattle.score.proofs.Lanes.{InLanes}
+use Rattle.score.proofs.Products.{length-terms}
+use Rattle.score.proofs.Bytes.{eight-start, eight-again, eight-end}
 use Rattle.score.proofs.byte_lanes.Statement.{statement}
 use Rattle.score.proofs.byte_lanes.Tie as tie
 
 abbrev Inv-loop : tie.InvT-loop
-Inv-loop block query centroids bytes acc₀ i₀ acc i = InEight block query centroids acc i
+Inv-loop block query centroids bytes acc₀ i₀ acc i = InLanes 8 (byteTerms centroids block query) acc i
 
 abbrev μ-loop : tie.MeasureT-loop
 μ-loop block query centroids bytes acc₀ i₀ acc i = bytes - i
@@ -14,7 +19,9 @@ loop-holds : tie.Need-loop-holds Inv-loop μ-loop
 loop-holds c = eight-start _ _ _
 
 add-loop : tie.Need-add-loop Inv-loop μ-loop
-add-loop c = search needs
+add-loop c =
+    let a = c .before .before .before .before .args in
+    omega (arith, c .loop .inv .within, length-terms (now (a .centroids)) (now (a .block)) (now (a .query)))
 
 byte-step-requires : tie.Need-byte-step-requires Inv-loop μ-loop
 byte-step-requires c κs = search needs

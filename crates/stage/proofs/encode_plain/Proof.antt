@@ -7,8 +7,8 @@ use Rattle.stage.proofs.encode_plain.Statement.{statement}
 use Rattle.stage.proofs.encode_plain.Tie as tie
 use Rattle.stage.proofs.encode_plain.Reads as reads
 use Rattle.stage.proofs.encode_plain.Lts as lts
+use Rattle.stage.proofs.bytes.Reads as bytes-reads
 use Rattle.stage.proofs.fits.Reads as fits-reads
-use Rattle.stage.proofs.floats.Reads as floats-reads
 use Rattle.stage.proofs.store_plain.Reads as store-plain-reads
 
 fits-requires : tie.Need-fits-requires
@@ -17,17 +17,17 @@ fits-requires c κs = search needs
 returns : tie.Need-returns
 returns c = not-plain _ _ _ _ _ _ (says-no (c .before .fits2 .ensures) (c .if1 .taken))
 
-floats-requires : tie.Need-floats-requires
-floats-requires c κs = search needs
+bytes-requires : tie.Need-bytes-requires
+bytes-requires c κs = search needs
 
 sub-store-plain : tie.Need-sub-store-plain
 sub-store-plain c = search needs
 
-part-d-start : tie.Need-part-d-start
-part-d-start c = search needs
+part-codes-start : tie.Need-part-codes-start
+part-codes-start c = search needs
 
-part-d-end : tie.Need-part-d-end
-part-d-end c = omega (arith, fits-of _ _ _ _ (says-yes (c .before .before .fits2 .ensures) (c .before .if1 .left)) .most)
+part-codes-end : tie.Need-part-codes-end
+part-codes-end c = omega (arith, fits-of _ _ _ _ (says-yes (c .before .before .fits2 .ensures) (c .before .if1 .left)) .most)
 
 store-plain-requires : tie.Need-store-plain-requires
 store-plain-requires c κs = ((says-yes (c .before .before .before .before .fits2 .ensures) (c .before .before .before .if1 .left)), search needs)
@@ -44,10 +44,10 @@ encode-plain-spec =
     (tie.spec
     fits-requires
     returns
-    floats-requires
+    bytes-requires
     sub-store-plain
-    part-d-start
-    part-d-end
+    part-codes-start
+    part-codes-end
     store-plain-requires
     same-length
     returns-2)

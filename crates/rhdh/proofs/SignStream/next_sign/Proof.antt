@@ -1,22 +1,24 @@
--- `SignStream::next_sign` meets its contract: the code's shifts are the definition's, and the sign goes by the test on the output.
+-- `SignStream::next_sign` meets its contract: the code's shifts are the definition's, and the output's top bit picks the sign.
 use mathlib.Core.Path.{refl}
 use borrow.Author.Needs.{needs}
 use lib.Ieee.{neg, ofBits}
 use Rattle.rhdh.specs.Signs.{xorRight, xorLeft, step, output}
-use Rattle.rhdh.proofs.Signs.{sign-minus, sign-plus}
+use Rattle.rhdh.proofs.Signs.{sign-by-top}
 use Rattle.rhdh.proofs.SignStream.next_sign.Statement.{statement}
 use Rattle.rhdh.proofs.SignStream.next_sign.Tie as tie
 
-wrapping-mul-requires : tie.Need-wrapping-mul-requires
-wrapping-mul-requires c κs = search needs
+scrambled-requires : tie.Need-scrambled-requires
+scrambled-requires c κs = search needs
+
+mul-sign : tie.Need-mul-sign
+mul-sign c = search needs
+
+array-read-sign : tie.Need-array-read-sign
+array-read-sign c = search needs
 
 returns : tie.Need-returns
 unfolding xorRight xorLeft step output neg ofBits
-returns c = (refl, sign-minus _ _ (c .before .wrapping-mul .ensures) (c .if1 .taken))
-
-returns-2 : tie.Need-returns-2
-unfolding xorRight xorLeft step output ofBits
-returns-2 c = (refl, sign-plus _ _ (c .before .wrapping-mul .ensures) (c .if1 .left))
+returns c = (refl, sign-by-top _ _ _ (c .scrambled .ensures))
 
 pub next-sign-spec : {M : Type 1} → statement M
-next-sign-spec = tie.close (tie.spec wrapping-mul-requires returns returns-2)
+next-sign-spec = tie.close (tie.spec scrambled-requires mul-sign array-read-sign returns)

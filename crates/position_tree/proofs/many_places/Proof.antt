@@ -1,0 +1,10 @@
+-- `position_tree::many_places` meets its contract.
+use Rattle.position_tree.proofs.Tree.{all-zero}
+use Rattle.position_tree.proofs.many_places.Statement.{statement}
+use Rattle.position_tree.proofs.many_places.Tie as tie
+
+returns : tie.Need-returns
+returns c = λ i. all-zero 196608 i
+
+pub many-places-spec : {M : Type 1} → statement M
+many-places-spec = tie.close (tie.spec returns)

@@ -1,0 +1,4 @@
+-- What the contracts of this crate cite.
+pub mod Decides
+pub mod Ordered
+pub mod Tree

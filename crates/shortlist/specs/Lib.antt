@@ -1,0 +1,2 @@
+-- The shortlist.
+pub mod Shortlist
