@@ -22,27 +22,28 @@ use Rattle.index.specs.Fit.{fit}
 use Rattle.index.specs.Step.{Hit, Answer, keyHits, when, liveFrom, byKey, keyOfMark, searched, answered, step}
 use Rattle.index.specs.Step as Step
 use Rattle.index.specs.Call.{Result, call}
-use Rattle.index.specs.Answers.{result, filed, files}
+use Rattle.index.specs.Answers.{result, Filed, filed, files}
 use Rattle.held.proofs.Value.{mark-part}
 use Rattle.hits.specs.Hits.{ready, shown, listAnswer}
 use Rattle.distinct.specs.Distinct.{hitAt, keyedList, keyedShown}
+use Rattle.search_keyed.specs.Named.{hitCount, keyedOf, namedAnswer}
 use Rattle.asking.specs.Faults.{searchFault}
 use Rattle.asking.proofs.Cells.{scores, hit, chosen-low}
 use Rattle.asking.proofs.Answers.{is-ready, nan-answer, sound-answer, sound-shown}
 use Rattle.asking.proofs.Searched.{liveNan, liveChosen, shownBy, searched-fits, searched-query, chosen-places, chosen-few, search-refused, search-listed}
-
-abbrev byKeys : List Hit → Answer
-byKeys xs = keyHits (byKey [] xs)
 
 -- one more than the hits that are answered, 0 for a refusal
 abbrev hitsIn : Found → ℕ
 hitsIn (Found.Hits m) = suc m
 hitsIn (Found.Refused n) = 0
 
+abbrev byKeys : List Hit → Answer
+byKeys xs = keyHits (byKey [] xs)
+
 -- the first places of an array that a list was written over
-front : {X : Type 0} (ys xs : List X) (m : ℕ) → m ≡ length ys → take (m - 0) (over ys xs) ≡ ys
+front : {X : Type 0} (ys xs : List X) (m : ℕ) → m ≡ length ys → take m (over ys xs) ≡ ys
 unfolding over
-front ys xs m e = rw (sub-zero m, e) (take-append-seam ys (drop (length ys) xs))
+front ys xs m e = rw e (take-append-seam ys (drop (length ys) xs))
 
 -- the listed slots with the keys that the arrays have for them, as the step has them
 slots-hits : (x : Index) (a : Arrays) → fit x a ≡ true → (es : List (ℕ × Float)) → Each (λ y. y .0 < x .n) es →
@@ -54,6 +55,36 @@ slots-hits x a e (y ∷ es) low =
       key = sym (mark-part x a e (y .0) (low .0) keyOfMark none (λ u. refl) (λ u. refl)) j;
       score = y .1;
     } ∷ slots-hits x a e es (low .1) j
+
+-- `name_hits`
+module _ (keys : List ℕ) (keyed : List Bool) (us : List ℕ) (ws : List Float) (places : ℕ) where
+  -- the answer is that of the hits `r`, and both results are written over with their keys
+  abbrev Names : (r s : Found) (ns ms : List ℕ) (ss ls : List Float) → Type 0
+  Names r s ns ms ss ls =
+      (s ≡ namedAnswer r (keyedOf keys keyed us ws places r)) ×
+      ((ms ≡ over (map (λ y. y .0) (keyedOf keys keyed us ws places r)) ns) × (ls ≡ over (map (λ y. y .1) (keyedOf keys keyed us ws places r)) ss))
+
+  pub passed-on : (r : Found) (n : ℕ) → r ≡ Found.Refused n → (ns : List ℕ) (ss : List Float) → Names r r ns ns ss ss
+  unfolding over
+  passed-on (Found.Refused m) n e ns ss = (refl, (refl, refl))
+  passed-on (Found.Hits m) n e ns ss = absurd (omega (arith, ap hitsIn e))
+
+  -- by the first m places
+  abbrev first : ℕ → List (ℕ × Float)
+  first m = keyedShown keys keyed (take (m - 0) us) (take (m - 0) ws) places
+
+  same : (r : Found) (m : ℕ) → r ≡ Found.Hits m → first m ≡ keyedOf keys keyed us ws places r
+  same r m e = ap (λ (z : ℕ). keyedShown keys keyed (take z us) (take z ws) places) (sub-zero m) ∙ ap (keyedOf keys keyed us ws places) (sym e)
+
+  pub named-hits : (r : Found) (m : ℕ) → r ≡ Found.Hits m → (n : ℕ) (ns ms : List ℕ) (ss ls : List Float) →
+      n ≡ length (first m) → ms ≡ over (map (λ y. y .0) (first m)) ns → ls ≡ over (map (λ y. y .1) (first m)) ss → Names r (Found.Hits n) ns ms ss ls
+  named-hits r m e n ns ms ss ls i j l = (
+    ap Found.Hits (i ∙ ap length (same r m e)) ∙ ap (λ (f : Found). namedAnswer f (keyedOf keys keyed us ws places r)) (sym e),
+    (
+      j ∙ ap (λ (es : List (ℕ × Float)). over (map (λ y. y .0) es) ns) (same r m e),
+      l ∙ ap (λ (es : List (ℕ × Float)). over (map (λ y. y .1) es) ss) (same r m e),
+    ),
+  )
 
 module _ (x : Index) (a : Arrays) (q : List Float) (k places : ℕ) where
   is : (room : ℕ) → step room (stateOf x a) (Step.searchKeyed q k places) ≡
@@ -72,80 +103,73 @@ module _ (x : Index) (a : Arrays) (q : List Float) (k places : ℕ) where
     pub keys-refused : (f ≡ 0 → ⊥) → (ns : List ℕ) (ss : List Float) → filed x a (Found.Refused f) ns ss ≡ files (call x a (Step.searchKeyed q k places)) ns ss
     keys-refused some ns ss = ap (λ (y : Result). files y ns ss) (search-refused x a q k places (Step.searchKeyed q k places) byKeys is f e some)
 
-    -- after `hits::list` into working arrays of `room` places
-    module _ (z : f ≡ 0) (room : ℕ) (r : Found) (g : r ≡ listAnswer (scores (headerOf x) a q) (a .alive) (x .n) can k room) (wide : room ≡ 65536) where
-      accepted : searchFault x a q k places ≡ 0
-      accepted = sym e ∙ z
+  -- Where the tests found no fault: after `hits::list` into working arrays of `room` places.
+  module _ (accepted : searchFault x a q k places ≡ 0) (room : ℕ) (wide : min places 65536 ≤ room) where
+    few : length listed ≤ room
+    few = omega (arith, wide, chosen-places x a q k places accepted, chosen-few x a q k places accepted)
 
-      fits : fit x a ≡ true
-      fits = searched-fits x a q k places accepted
+    fits : fit x a ≡ true
+    fits = searched-fits x a q k places accepted
 
-      yes : can ≡ true
-      yes = is-ready x a fits (ltb 0 (x .live)) q (searched-query x a q k places accepted)
+    yes : can ≡ true
+    yes = is-ready x a fits (ltb 0 (x .live)) q (searched-query x a q k places accepted)
 
-      few : length listed ≤ room
-      few = omega (arith, chosen-few x a q k places accepted, wide)
+    -- the answer that it gives, by whether a live slot's score is NaN
+    abbrev given : Bool → Found
+    given true = Found.Refused 12
+    given false = Found.Hits (length listed)
 
-      -- what it answers
-      nan-is : liveNan x a q ≡ true → r ≡ Found.Refused 12
-      nan-is t = g ∙ nan-answer (scores (headerOf x) a q) (a .alive) (x .n) can k room yes t
+    answer-is : (b : Bool) → liveNan x a q ≡ b → listAnswer (scores (headerOf x) a q) (a .alive) (x .n) can k room ≡ given b
+    answer-is true t = nan-answer (scores (headerOf x) a q) (a .alive) (x .n) can k room yes t
+    answer-is false t = sound-answer (scores (headerOf x) a q) (a .alive) (x .n) can k room yes t few
 
-      sound-is : liveNan x a q ≡ false → r ≡ Found.Hits (length listed)
-      sound-is t = g ∙ sound-answer (scores (headerOf x) a q) (a .alive) (x .n) can k room yes t few
+    pub listed-few : (r : Found) → r ≡ listAnswer (scores (headerOf x) a q) (a .alive) (x .n) can k room → hitCount r ≤ room
+    listed-few r g = go (liveNan x a q) refl
+      where
+        go : (b : Bool) → liveNan x a q ≡ b → hitCount r ≤ room
+        go true t = rw (g ∙ answer-is true t) (omega arith)
+        go false t = rw (g ∙ answer-is false t) few
 
-      called : (ns : List ℕ) (ss : List Float) (b : Bool) → liveNan x a q ≡ b →
-          files (result x a (shownBy x a q k byKeys (when b 12))) ns ss ≡ files (call x a (Step.searchKeyed q k places)) ns ss
-      called ns ss b t =
-          ap (λ (c : Bool). files (result x a (shownBy x a q k byKeys (when c 12))) ns ss) (sym t)
+    -- and `name_hits` of what it leaves in them
+    module _ (us vs : List ℕ) (ts ws : List Float)
+        (o : vs ≡ over (map (λ y. y .0) (shown (scores (headerOf x) a q) (a .alive) (x .n) can k room)) us)
+        (p : ws ≡ over (map (λ y. y .1) (shown (scores (headerOf x) a q) (a .alive) (x .n) can k room)) ts) where
+      -- the first places of the working arrays are the list
+      first-of : {X : Type 0} → liveNan x a q ≡ false → (part : ℕ × Float → X) (before after : List X) →
+          after ≡ over (map part (shown (scores (headerOf x) a q) (a .alive) (x .n) can k room)) before → take (length listed) after ≡ map part listed
+      first-of t part before after i =
+          ap (take (length listed)) (i ∙ ap (λ (es : List (ℕ × Float)). over (map part es) before)
+          (sound-shown (scores (headerOf x) a q) (a .alive) (x .n) can k room yes t few))
+          ∙ front (map part listed) before (length listed) (sym (length-map listed part))
+
+      -- the keys that are written after an answer
+      abbrev written : Found → List (ℕ × Float)
+      written r = keyedOf (a .keys) (a .keyed) vs ws places r
+
+      by-key : liveNan x a q ≡ false → written (given false) ≡ byKey [] (map (hit (headerOf x) a) listed)
+      unfolding keyedShown keyedList
+      by-key t =
+          let n = min (length (map (λ (y : ℕ × Float). y .0) listed)) (length (map (λ (y : ℕ × Float). y .1) listed)) in
+          let same : n ≤ length listed = omega (arith, length-map listed (λ (y : ℕ × Float). y .0)) in
+          (λ j. keyedShown (a .keys) (a .keyed) (first-of t (λ y. y .0) us vs o j) (first-of t (λ y. y .1) ts ws p j) places)
+          ∙ rw (le-leb n 65536 (omega (arith, same, chosen-few x a q k places accepted)), le-leb n places (omega (arith, same, chosen-places x a q k places accepted)))
+          (ap (byKey []) (slots-hits x a fits listed (chosen-low (headerOf x) a q (a .alive) (x .n) k)))
+
+      abbrev filedBy : Found → (ns : List ℕ) (ss : List Float) → Filed
+      filedBy r ns ss = filed x a (namedAnswer r (written r)) (over (map (λ y. y .0) (written r)) ns) (over (map (λ y. y .1) (written r)) ss)
+
+      -- as the step has it
+      named : (b : Bool) → liveNan x a q ≡ b → (ns : List ℕ) (ss : List Float) → filedBy (given b) ns ss ≡ files (result x a (shownBy x a q k byKeys (when b 12))) ns ss
+      unfolding over
+      named true t ns ss = refl
+      named false t ns ss =
+          ap (λ (es : List (ℕ × Float)). filed x a (Found.Hits (length es)) (over (map (λ y. y .0) es) ns) (over (map (λ y. y .1) es) ss)) (by-key t)
+
+      pub keys-named : (r s : Found) → r ≡ listAnswer (scores (headerOf x) a q) (a .alive) (x .n) can k room → s ≡ namedAnswer r (written r) →
+          (ns ms : List ℕ) (ss ls : List Float) → ms ≡ over (map (λ y. y .0) (written r)) ns → ls ≡ over (map (λ y. y .1) (written r)) ss →
+          filed x a s ms ls ≡ files (call x a (Step.searchKeyed q k places)) ns ss
+      keys-named r s g h ns ms ss ls i l =
+          (λ j. filed x a (h j) (i j) (l j))
+          ∙ ap (λ (y : Found). filedBy y ns ss) (g ∙ answer-is (liveNan x a q) refl)
+          ∙ named (liveNan x a q) refl ns ss
           ∙ ap (λ (y : Result). files y ns ss) (search-listed x a q k places (Step.searchKeyed q k places) byKeys is accepted)
-
-      pub keys-nan : (n : ℕ) → r ≡ Found.Refused n → (ns : List ℕ) (ss : List Float) → filed x a r ns ss ≡ files (call x a (Step.searchKeyed q k places)) ns ss
-      keys-nan n h ns ss = go (liveNan x a q) refl
-        where
-          go : (b : Bool) → liveNan x a q ≡ b → filed x a r ns ss ≡ files (call x a (Step.searchKeyed q k places)) ns ss
-          go true t = ap (λ (y : Found). filed x a y ns ss) (nan-is t) ∙ called ns ss true t
-          go false t = absurd (omega (arith, ap hitsIn (sym (sound-is t) ∙ h)))
-
-      module _ (m : ℕ) (h : r ≡ Found.Hits m) where
-        no-nan : liveNan x a q ≡ false
-        no-nan = go (liveNan x a q) refl
-          where
-            go : (b : Bool) → liveNan x a q ≡ b → b ≡ false
-            go true t = absurd (omega (arith, ap hitsIn (sym (nan-is t) ∙ h)))
-            go false t = refl
-
-        many : m ≡ length listed
-        many = omega (arith, ap hitsIn (sym (sound-is no-nan) ∙ h))
-
-        pub keys-fit : m ≤ 65536
-        keys-fit = omega (arith, many, chosen-few x a q k places accepted)
-
-        -- and `distinct::list_keys` of their first places
-        module _ (us vs : List ℕ) (ts ws : List Float)
-            (o : vs ≡ over (map (λ y. y .0) (shown (scores (headerOf x) a q) (a .alive) (x .n) can k room)) us)
-            (p : ws ≡ over (map (λ y. y .1) (shown (scores (headerOf x) a q) (a .alive) (x .n) can k room)) ts) where
-          first-of : {X : Type 0} (part : ℕ × Float → X) (before after : List X) →
-              after ≡ over (map part (shown (scores (headerOf x) a q) (a .alive) (x .n) can k room)) before → take (m - 0) after ≡ map part listed
-          first-of part before after i =
-              ap (take (m - 0)) (i ∙ ap (λ (es : List (ℕ × Float)). over (map part es) before)
-              (sound-shown (scores (headerOf x) a q) (a .alive) (x .n) can k room yes no-nan few))
-              ∙ front (map part listed) before m (many ∙ sym (length-map listed part))
-
-          abbrev written : List (ℕ × Float)
-          written = keyedShown (a .keys) (a .keyed) (take (m - 0) vs) (take (m - 0) ws) places
-
-          by-key : written ≡ byKey [] (map (hit (headerOf x) a) listed)
-          unfolding keyedShown keyedList
-          by-key =
-              let n = min (length (map (λ (y : ℕ × Float). y .0) listed)) (length (map (λ (y : ℕ × Float). y .1) listed)) in
-              let same : n ≤ length listed = omega (arith, length-map listed (λ (y : ℕ × Float). y .0)) in
-              (λ j. keyedShown (a .keys) (a .keyed) (first-of (λ y. y .0) us vs o j) (first-of (λ y. y .1) ts ws p j) places)
-              ∙ rw (le-leb n 65536 (omega (arith, same, chosen-few x a q k places accepted)), le-leb n places (omega (arith, same, chosen-places x a q k places accepted)))
-              (ap (byKey []) (slots-hits x a fits listed (chosen-low (headerOf x) a q (a .alive) (x .n) k)))
-
-          pub keys-listed : (ns ms : List ℕ) (ss ls : List Float) (n : ℕ) → n ≡ length written → ms ≡ over (map (λ y. y .0) written) ns →
-              ls ≡ over (map (λ y. y .1) written) ss → filed x a (Found.Hits n) ms ls ≡ files (call x a (Step.searchKeyed q k places)) ns ss
-          keys-listed ns ms ss ls n i j l =
-              (λ t. filed x a (Found.Hits (i t)) (j t) (l t))
-              ∙ ap (λ (es : List (ℕ × Float)). filed x a (Found.Hits (length es)) (over (map (λ y. y .0) es) ns) (over (map (λ y. y .1) es) ss)) by-key
-              ∙ called ns ss false no-nan

@@ -6,6 +6,11 @@ ghost use Rattle.index.specs.Arrays.{lent};
 ghost use Rattle.index.specs.Step as Step;
 ghost use Rattle.index.specs.Call.{call};
 ghost use Rattle.index.specs.Answers.{filed, files};
+ghost use mathlib.Core.List.{map};
+ghost use Prim.Native.Nat.{_≤_};
+ghost use Rattle.lists.specs.Lists.{over};
+ghost use Rattle.asking.specs.Faults.{searchFault};
+ghost use Rattle.search_keyed.specs.Named.{hitCount, keyedOf, namedAnswer, Files};
 use index::Found;
 use index::Index;
 
@@ -16,6 +21,117 @@ fn slot_numbers() -> [u32; 65536] {
 
 fn slot_scores() -> [f32; 65536] {
     [0.0; 65536]
+}
+
+fn few_numbers() -> [u32; 1024] {
+    [0; 1024]
+}
+
+fn few_scores() -> [f32; 1024] {
+    [0.0; 1024]
+}
+
+// Names the hits that a list answers, in the first places of `slots` and `found`; a refusal is passed on.
+// One function for both sizes of working arrays: what naming needs of memory is never there together with what listing needs.
+fn name_hits(
+    listed: Found,
+    keys: &[u64],
+    keyed: &[bool],
+    slots: &[u32],
+    found: &[f32],
+    names: &mut [u64],
+    scores: &mut [f32],
+) -> Found
+    requires { ⌜ (hitCount listed ≤ length (now slots)) × (hitCount listed ≤ length (now found)) ⌝ }
+    ensures { λ r. ⌜ r ≡ namedAnswer listed (keyedOf (now (keys .entry)) (now (keyed .entry)) (now (slots .entry)) (now (found .entry))
+        (min (length (now (names .entry))) (length (now (scores .entry)))) listed) ⌝ }
+    ensures { λ _. ⌜ now (names .exit) ≡ over (map (λ e. e .0) (keyedOf (now (keys .entry)) (now (keyed .entry)) (now (slots .entry)) (now (found .entry))
+        (min (length (now (names .entry))) (length (now (scores .entry)))) listed)) (now (names .entry)) ⌝ }
+    ensures { λ _. ⌜ now (scores .exit) ≡ over (map (λ e. e .1) (keyedOf (now (keys .entry)) (now (keyed .entry)) (now (slots .entry)) (now (found .entry))
+        (min (length (now (names .entry))) (length (now (scores .entry)))) listed)) (now (scores .entry)) ⌝ }
+{
+    let Found::Hits(m) = listed else {
+        return listed;
+    };
+    let n = distinct::list_keys(keys, keyed, &slots[0..m], &found[0..m], names, scores);
+    Found::Hits(n)
+}
+
+// An accepted search for at most 1,024 keys: clearing working arrays for 65,536 would take longer than the search.
+fn search_few(
+    index: Index,
+    codes: &[u8],
+    scales: &[u32],
+    keys: &[u64],
+    keyed: &[bool],
+    held: &[u32],
+    alive: &[u8],
+    codes2: &[u8],
+    scales2: &[u32],
+    query: &[f32],
+    k: usize,
+    names: &mut [u64],
+    scores: &mut [f32],
+) -> Found
+    requires { ⌜ searchFault index (lent codes scales keys keyed held alive codes2 scales2) (now query) k (min (length (now names)) (length (now scores))) ≡ 0 ⌝ }
+    requires { ⌜ min (length (now names)) (length (now scores)) ≤ 1024 ⌝ }
+    ensures { λ r. ⌜
+        Files index (lent (codes .entry) (scales .entry) (keys .entry) (keyed .entry) (held .entry) (alive .entry) (codes2 .entry) (scales2 .entry))
+        (now (query .entry)) k (now (names .entry)) (now (scores .entry)) r (now (names .exit)) (now (scores .exit)) ⌝ }
+{
+    let mut slots = few_numbers();
+    let mut found = few_scores();
+    let listed = hits::list(
+        index,
+        codes,
+        scales,
+        codes2,
+        scales2,
+        alive,
+        query,
+        k,
+        &mut slots,
+        &mut found,
+    );
+    name_hits(listed, keys, keyed, &slots, &found, names, scores)
+}
+
+// An accepted search for any number of keys.
+fn search_many(
+    index: Index,
+    codes: &[u8],
+    scales: &[u32],
+    keys: &[u64],
+    keyed: &[bool],
+    held: &[u32],
+    alive: &[u8],
+    codes2: &[u8],
+    scales2: &[u32],
+    query: &[f32],
+    k: usize,
+    names: &mut [u64],
+    scores: &mut [f32],
+) -> Found
+    requires { ⌜ searchFault index (lent codes scales keys keyed held alive codes2 scales2) (now query) k (min (length (now names)) (length (now scores))) ≡ 0 ⌝ }
+    ensures { λ r. ⌜
+        Files index (lent (codes .entry) (scales .entry) (keys .entry) (keyed .entry) (held .entry) (alive .entry) (codes2 .entry) (scales2 .entry))
+        (now (query .entry)) k (now (names .entry)) (now (scores .entry)) r (now (names .exit)) (now (scores .exit)) ⌝ }
+{
+    let mut slots = slot_numbers();
+    let mut found = slot_scores();
+    let listed = hits::list(
+        index,
+        codes,
+        scales,
+        codes2,
+        scales2,
+        alive,
+        query,
+        k,
+        &mut slots,
+        &mut found,
+    );
+    name_hits(listed, keys, keyed, &slots, &found, names, scores)
 }
 
 // Writes the keys and scores to the first places of `names` and `scores`, and answers how many they are: fewer than k where hits have no key or a key twice.
@@ -60,23 +176,36 @@ pub fn search_keyed(
     if fault != 0 {
         return Found::Refused(fault);
     }
-    let mut slots = slot_numbers();
-    let mut found = slot_scores();
-    let listed = hits::list(
+    if names.len() <= 1024 {
+        return search_few(
+            index,
+            codes,
+            scales,
+            keys,
+            keyed,
+            held,
+            alive,
+            codes2,
+            scales2,
+            query,
+            k,
+            names,
+            scores,
+        );
+    }
+    search_many(
         index,
         codes,
         scales,
+        keys,
+        keyed,
+        held,
+        alive,
         codes2,
         scales2,
-        alive,
         query,
         k,
-        &mut slots,
-        &mut found,
-    );
-    let Found::Hits(m) = listed else {
-        return listed;
-    };
-    let n = distinct::list_keys(keys, keyed, &slots[0..m], &found[0..m], names, scores);
-    Found::Hits(n)
+        names,
+        scores,
+    )
 }

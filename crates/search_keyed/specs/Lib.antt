@@ -1,0 +1,2 @@
+-- What naming listed hits does.
+pub mod Named
