@@ -152,7 +152,7 @@ fn store_residual(
 }
 
 // The codes of a rotated vector, and those of what they leave of it, into the blocks of a slot of a residual index.
-pub fn encode_residual(
+fn encode_residual(
     boundaries: &[f32],
     centroids: &[f32],
     rotated: &[f32],

@@ -28,7 +28,7 @@ pub fn key_word(keys: &[u64], slot: usize) -> u64
 }
 
 // The position of a slot in held order, where it has a key.
-pub fn held_position(held: &[u32], slot: usize) -> usize
+fn held_position(held: &[u32], slot: usize) -> usize
     ensures { λ r. ⌜ r ≡ getD (now (held .entry)) slot 0 ⌝ }
 {
     if slot < held.len() {

@@ -36,7 +36,7 @@ fn scale_size(version: u16) -> u8
 }
 
 // What a version has.
-pub fn form_of(version: u16) -> Form
+fn form_of(version: u16) -> Form
     ensures { λ r. ⌜ r ≡ formOf version ⌝ }
 {
     Form {
@@ -92,7 +92,7 @@ fn keys_at(form: Form, block: u16, n: u32) -> usize
 }
 
 // Where the file ends, for blocks of so many bytes, n slots and k key entries.
-pub fn end_at(form: Form, block: u16, n: u32, k: u32) -> usize
+fn end_at(form: Form, block: u16, n: u32, k: u32) -> usize
     ensures { λ r. ⌜ r ≡ endAt form block n k ⌝ }
 {
     let keys = keys_at(form, block, n);

@@ -64,7 +64,7 @@ fn scale_at(scales: &[u32], slot: usize) -> u32
 }
 
 // The score of a slot under a prepared query. At a width other than 4, 5 and 6 no block is looked at.
-pub fn score_prepared(
+fn score_prepared(
     index: Index,
     codes: &[u8],
     scales: &[u32],
