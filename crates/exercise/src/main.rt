@@ -138,7 +138,7 @@ fn run(buf: &mut [u8], out: &mut [u8]) {
     }
 }
 
-// Answers lines over arrays that are all 0, up to the line that lends arrays anew.
+// Answers lines over the lent parts of arrays that are all 0, up to the line that lends arrays anew.
 fn answer_with_fresh(buf: &mut [u8], out: &mut [u8], state: State) -> State
     ensures { λ r. ⌜ r .cursor .left ≤ state .cursor .left - 1 ⌝ }
 {
@@ -150,17 +150,26 @@ fn answer_with_fresh(buf: &mut [u8], out: &mut [u8], state: State) -> State
     let mut alive = marks();
     let mut codes2 = code_bytes();
     let mut scales2 = words();
+    let lent = state.lent;
+    let a = capped(lent.codes, 1048576);
+    let b = capped(lent.scales, 4096);
+    let c = capped(lent.keys, 4096);
+    let d = capped(lent.keyed, 4096);
+    let e = capped(lent.held, 4096);
+    let f = capped(lent.alive, 4096);
+    let g = capped(lent.codes2, 1048576);
+    let h = capped(lent.scales2, 4096);
     answer_lines(
         buf,
         out,
-        &mut codes,
-        &mut scales,
-        &mut keys,
-        &mut keyed,
-        &mut held,
-        &mut alive,
-        &mut codes2,
-        &mut scales2,
+        &mut codes[0..a],
+        &mut scales[0..b],
+        &mut keys[0..c],
+        &mut keyed[0..d],
+        &mut held[0..e],
+        &mut alive[0..f],
+        &mut codes2[0..g],
+        &mut scales2[0..h],
         state,
     )
 }
@@ -278,7 +287,7 @@ fn answer(
     if c == 0 {
         return answer_lend(line, out, index, lent);
     }
-    let r = lend_first(
+    let r = reply(
         c,
         line,
         out,
@@ -291,7 +300,6 @@ fn answer(
         codes2,
         scales2,
         index,
-        lent,
     );
     let next = r.index;
     Answered {
@@ -300,79 +308,6 @@ fn answer(
         fresh: false,
         length: r.length,
     }
-}
-
-// Passes a line on with the lent parts of the first four arrays.
-fn lend_first(
-    c: usize,
-    line: &[u8],
-    out: &mut [u8],
-    codes: &mut [u8],
-    scales: &mut [u32],
-    keys: &mut [u64],
-    keyed: &mut [bool],
-    held: &mut [u32],
-    alive: &mut [u8],
-    codes2: &mut [u8],
-    scales2: &mut [u32],
-    index: Index,
-    lent: Lengths,
-) -> Replied {
-    let a = capped(lent.codes, codes.len());
-    let b = capped(lent.scales, scales.len());
-    let d = capped(lent.keys, keys.len());
-    let e = capped(lent.keyed, keyed.len());
-    lend_last(
-        c,
-        line,
-        out,
-        &mut codes[0..a],
-        &mut scales[0..b],
-        &mut keys[0..d],
-        &mut keyed[0..e],
-        held,
-        alive,
-        codes2,
-        scales2,
-        index,
-        lent,
-    )
-}
-
-// And with those of the others.
-fn lend_last(
-    c: usize,
-    line: &[u8],
-    out: &mut [u8],
-    codes: &mut [u8],
-    scales: &mut [u32],
-    keys: &mut [u64],
-    keyed: &mut [bool],
-    held: &mut [u32],
-    alive: &mut [u8],
-    codes2: &mut [u8],
-    scales2: &mut [u32],
-    index: Index,
-    lent: Lengths,
-) -> Replied {
-    let a = capped(lent.held, held.len());
-    let b = capped(lent.alive, alive.len());
-    let d = capped(lent.codes2, codes2.len());
-    let e = capped(lent.scales2, scales2.len());
-    reply(
-        c,
-        line,
-        out,
-        codes,
-        scales,
-        keys,
-        keyed,
-        &mut held[0..a],
-        &mut alive[0..b],
-        &mut codes2[0..d],
-        &mut scales2[0..e],
-        index,
-    )
 }
 
 // The number of a line's command; 26 where there is no such command, or the line is too long to be read, and 27 where nothing is asked.
@@ -703,10 +638,10 @@ fn reply_call(
             index,
         );
     }
-    if c < 7 {
+    if c < 9 {
         return put_made(
             out,
-            make_index(
+            make_or_set(
                 c,
                 q,
                 codes,
@@ -717,16 +652,16 @@ fn reply_call(
                 alive,
                 codes2,
                 scales2,
+                index,
             ),
             index,
         );
     }
-    if c < 10 {
+    if c == 9 {
         return put_made(
             out,
-            change_index(
-                c,
-                q.a,
+            compact::compact(
+                index,
                 codes,
                 scales,
                 keys,
@@ -735,7 +670,6 @@ fn reply_call(
                 alive,
                 codes2,
                 scales2,
-                index,
             ),
             index,
         );
@@ -778,7 +712,8 @@ fn reply_call(
     }
 }
 
-fn make_index(
+// The calls that make or set a record, and only read the arrays.
+fn make_or_set(
     c: usize,
     q: Request,
     codes: &[u8],
@@ -789,6 +724,7 @@ fn make_index(
     alive: &[u8],
     codes2: &[u8],
     scales2: &[u32],
+    index: Index,
 ) -> Made {
     if c == 4 {
         return make::new(
@@ -819,33 +755,20 @@ fn make_index(
             scales2,
         );
     }
-    make::with_residual(
-        q.a as usize,
-        q.b,
-        codes,
-        scales,
-        keys,
-        keyed,
-        held,
-        alive,
-        codes2,
-        scales2,
-    )
-}
-
-fn change_index(
-    c: usize,
-    a: u64,
-    codes: &mut [u8],
-    scales: &mut [u32],
-    keys: &mut [u64],
-    keyed: &mut [bool],
-    held: &mut [u32],
-    alive: &mut [u8],
-    codes2: &mut [u8],
-    scales2: &mut [u32],
-    index: Index,
-) -> Made {
+    if c == 6 {
+        return make::with_residual(
+            q.a as usize,
+            q.b,
+            codes,
+            scales,
+            keys,
+            keyed,
+            held,
+            alive,
+            codes2,
+            scales2,
+        );
+    }
     if c == 7 {
         return make::set_bits(
             index,
@@ -857,23 +780,10 @@ fn change_index(
             alive,
             codes2,
             scales2,
-            low_byte(a),
+            low_byte(q.a),
         );
     }
-    if c == 8 {
-        return make::enable_cascade(
-            index,
-            codes,
-            scales,
-            keys,
-            keyed,
-            held,
-            alive,
-            codes2,
-            scales2,
-        );
-    }
-    compact::compact(
+    make::enable_cascade(
         index,
         codes,
         scales,
@@ -1716,6 +1626,36 @@ fn array_number(name: &[u8]) -> usize {
     text::word_number(b"codes scales keys keyed held alive codes2 scales2", name)
 }
 
+// What a line sets: the number of the array, the place and the value; array 8, which there isn't, where the line can't be read.
+struct Poke {
+    array: usize,
+    place: usize,
+    value: u64,
+}
+
+fn poke_of(line: &[u8]) -> Poke {
+    let i = text::number_at(line, 2, u64::MAX);
+    let x = text::number_at(line, 3, u64::MAX);
+    let readable = i.ok && x.ok && text::field_count(line) == 4;
+    let name = array_number(text::field(line, 1));
+    Poke {
+        array: if readable { name } else { 8 },
+        place: i.value as usize,
+        value: x.value,
+    }
+}
+
+fn put_set(out: &mut [u8], done: bool, index: Index) -> Replied {
+    if !done {
+        return unreadable(out, index);
+    }
+    Replied {
+        index: index,
+        length: print::put_bytes(out, 0, b"ok"),
+    }
+}
+
+// Sets an element, where the array has it and its type holds the value.
 fn reply_set(
     line: &[u8],
     out: &mut [u8],
@@ -1729,57 +1669,20 @@ fn reply_set(
     scales2: &mut [u32],
     index: Index,
 ) -> Replied {
-    let i = text::number_at(line, 2, u64::MAX);
-    let x = text::number_at(line, 3, u64::MAX);
-    let readable = i.ok && x.ok && text::field_count(line) == 4;
-    if !readable {
-        return unreadable(out, index);
-    }
-    if !poke(
-        array_number(text::field(line, 1)),
-        i.value as usize,
-        x.value,
-        codes,
-        scales,
-        keys,
-        keyed,
-        held,
-        alive,
-        codes2,
-        scales2,
-    ) {
-        return unreadable(out, index);
-    }
-    Replied {
-        index: index,
-        length: print::put_bytes(out, 0, b"ok"),
-    }
-}
-
-// Sets an element, where the array has it and its type holds the value.
-fn poke(
-    array: usize,
-    i: usize,
-    x: u64,
-    codes: &mut [u8],
-    scales: &mut [u32],
-    keys: &mut [u64],
-    keyed: &mut [bool],
-    held: &mut [u32],
-    alive: &mut [u8],
-    codes2: &mut [u8],
-    scales2: &mut [u32],
-) -> bool {
+    let poke = poke_of(line);
+    let array = poke.array;
+    let i = poke.place;
+    let x = poke.value;
     match array {
-        0 => poke_byte(codes, i, x),
-        1 => poke_word(scales, i, x),
-        2 => poke_key(keys, i, x),
-        3 => poke_flag(keyed, i, x),
-        4 => poke_word(held, i, x),
-        5 => poke_byte(alive, i, x),
-        6 => poke_byte(codes2, i, x),
-        7 => poke_word(scales2, i, x),
-        _ => false,
+        0 => put_set(out, poke_byte(codes, i, x), index),
+        1 => put_set(out, poke_word(scales, i, x), index),
+        2 => put_set(out, poke_key(keys, i, x), index),
+        3 => put_set(out, poke_flag(keyed, i, x), index),
+        4 => put_set(out, poke_word(held, i, x), index),
+        5 => put_set(out, poke_byte(alive, i, x), index),
+        6 => put_set(out, poke_byte(codes2, i, x), index),
+        7 => put_set(out, poke_word(scales2, i, x), index),
+        _ => unreadable(out, index),
     }
 }
 
