@@ -624,8 +624,10 @@ fn reply_call(
     scales2: &mut [u32],
     index: Index,
 ) -> Replied {
-    if c == 3 {
-        return dump(
+    if c < 9 {
+        return reply_record(
+            c,
+            q,
             out,
             codes,
             scales,
@@ -635,25 +637,6 @@ fn reply_call(
             alive,
             codes2,
             scales2,
-            index,
-        );
-    }
-    if c < 9 {
-        return put_made(
-            out,
-            make_or_set(
-                c,
-                q,
-                codes,
-                scales,
-                keys,
-                keyed,
-                held,
-                alive,
-                codes2,
-                scales2,
-                index,
-            ),
             index,
         );
     }
@@ -710,6 +693,54 @@ fn reply_call(
             index,
         ),
     }
+}
+
+// Prints all there is, or makes or sets a record.
+fn reply_record(
+    c: usize,
+    q: Request,
+    out: &mut [u8],
+    codes: &[u8],
+    scales: &[u32],
+    keys: &[u64],
+    keyed: &[bool],
+    held: &[u32],
+    alive: &[u8],
+    codes2: &[u8],
+    scales2: &[u32],
+    index: Index,
+) -> Replied {
+    if c == 3 {
+        return dump(
+            out,
+            codes,
+            scales,
+            keys,
+            keyed,
+            held,
+            alive,
+            codes2,
+            scales2,
+            index,
+        );
+    }
+    put_made(
+        out,
+        make_or_set(
+            c,
+            q,
+            codes,
+            scales,
+            keys,
+            keyed,
+            held,
+            alive,
+            codes2,
+            scales2,
+            index,
+        ),
+        index,
+    )
 }
 
 // The calls that make or set a record, and only read the arrays.
