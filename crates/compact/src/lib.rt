@@ -155,7 +155,7 @@ fn second_stages(residual: bool, n: usize) -> usize
 fn block_size(index: Index) -> usize
     ensures { λ r. ⌜ r ≡ atWidth (index .bits) (blockSize (headerOf index)) ⌝ }
 {
-    codes::bytes_per_vector(rhdh::padded_dim(index.working_dim), index.bits)
+    codes::bytes_per_vector(padding::padded_dim(index.working_dim), index.bits)
 }
 
 // The record once so many slots are kept: the cascade ends where a dead slot was met.

@@ -15,7 +15,7 @@ use Rattle.lists.proofs.Entries.{entries}
 use Rattle.lists.proofs.Front.{getD-front, tab-map}
 use Rattle.digits.proofs.Below.{both}
 use Rattle.pattern.specs.Binary32.{_⊗_}
-use Rattle.rhdh.specs.Padded.{paddedDim}
+use Rattle.padding.specs.Padded.{paddedDim}
 use Rattle.lloyd.specs.Tables.{byWidth, levelsOf, boundariesOf}
 use Rattle.lloyd.specs.Quantizer.{quantized}
 use Rattle.lloyd.proofs.Quantized.{quantized-le}

@@ -214,7 +214,7 @@ fn measure(index: Index, codes: &[u8], alive: &[u8], query: &[f32], distances: &
         now (distances .exit) ≡ over (tab (liveDistance (headerOf index) (now (codes .entry)) (now (alive .entry)) (now (query .entry))) (index .n))
         (now (distances .entry)) ⌝ }
 {
-    let lanes = rhdh::padded_dim(index.working_dim);
+    let lanes = padding::padded_dim(index.working_dim);
     let size = codes::bytes_per_vector(lanes, 4);
     let mut prepared = floats();
     let rnorm = unit::prepare(index.working_dim, index.seed, query, &mut prepared);

@@ -1,6 +1,6 @@
 -- What fixes how a vector is coded, and stays while slots are in use: the struct `Header`.
 use Prim.Native.Nat.{ℕ}
-use Rattle.rhdh.specs.Padded.{paddedDim}
+use Rattle.padding.specs.Padded.{paddedDim}
 use Rattle.codes.specs.Packing.{bytesPerVector}
 pub use Rattle.encode.specs.declared.Header.{Header}
 

@@ -206,7 +206,7 @@ fn is_encodable(
     if !unit::is_rotatable(header.working, entries, 4096) {
         return false;
     }
-    let padded = rhdh::padded_dim(header.working);
+    let padded = padding::padded_dim(header.working);
     if !stage::fits(header.width, boundaries, padded, block) {
         return false;
     }
@@ -267,7 +267,7 @@ pub fn encode(
             scale2: 0,
         };
     }
-    let padded = rhdh::padded_dim(header.working);
+    let padded = padding::padded_dim(header.working);
     let mut rotated = floats();
     store_vector(
         header,

@@ -115,7 +115,7 @@ fn answer_encode(line: &[u8], out: &mut [u8]) -> usize {
 fn block_length(header: Header) -> usize
     ensures { λ r. ⌜ r ≤ 4096 ⌝ }
 {
-    let n = codes::bytes_per_vector(rhdh::padded_dim(header.working), header.width);
+    let n = codes::bytes_per_vector(padding::padded_dim(header.working), header.width);
     if 4096 < n {
         return 0;
     }
@@ -279,7 +279,7 @@ fn prepare(s: Space, v: &[f32], q: &mut [f32]) -> Query
     ensures { λ r. ⌜ r .length ≤ length (now (q .entry)) ⌝ }
 {
     let fault = unit::vector_fault(s.dim, s.working, v);
-    let padded = rhdh::padded_dim(s.working);
+    let padded = padding::padded_dim(s.working);
     if fault != 0 {
         return no_query(true, fault);
     }

@@ -89,7 +89,7 @@ pub fn capacity(
 ) -> usize
     ensures { λ r. ⌜ r ≡ atWidth (index .bits) (State.capacity (State.headerOf index) (lent (codes .entry) (scales .entry) (keys .entry) (keyed .entry) (held .entry) (alive .entry) (codes2 .entry) (scales2 .entry))) ⌝ }
 {
-    let bytes = codes::bytes_per_vector(rhdh::padded_dim(index.working_dim), index.bits);
+    let bytes = codes::bytes_per_vector(padding::padded_dim(index.working_dim), index.bits);
     if bytes == 0 {
         return 0;
     }

@@ -88,7 +88,7 @@ fn score_slots(
         (now (marks .entry)) n (now (all .entry)) (now (all .exit)) ⌝ }
 {
     let bits = index.bits;
-    let size = codes::bytes_per_vector(rhdh::padded_dim(index.working_dim), bits);
+    let size = codes::bytes_per_vector(padding::padded_dim(index.working_dim), bits);
     scan::stage_scores(
         bits,
         centroids,
@@ -207,7 +207,7 @@ fn enter_all(
 {
     let levels = lloyd::levels(index.bits);
     let centroids = lloyd::centroids(index.bits);
-    let padded = rhdh::padded_dim(index.working_dim);
+    let padded = padding::padded_dim(index.working_dim);
     let mut prepared = query_floats();
     unit::prepare(index.working_dim, index.seed, query, &mut prepared);
     enter_slots(

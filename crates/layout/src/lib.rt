@@ -151,7 +151,7 @@ pub fn count_slots(keyed: &[bool], alive: &[u8], n: usize) -> Counts
 pub fn block_size(index: Index) -> usize
     ensures { λ r. ⌜ r ≡ atWidth (index .bits) (blockSize (headerOf index)) ⌝ }
 {
-    codes::bytes_per_vector(rhdh::padded_dim(index.working_dim), index.bits)
+    codes::bytes_per_vector(padding::padded_dim(index.working_dim), index.bits)
 }
 
 // The length of the file of an index with these counts, its blocks being so many bytes.

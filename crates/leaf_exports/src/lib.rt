@@ -5,7 +5,7 @@ ghost use Rattle.half.specs.Half.{Narrowed, Widened};
 ghost use Rattle.sqrt.specs.Root.{SquareRoot};
 ghost use Rattle.lloyd.specs.Tables.{boundariesOf};
 ghost use Rattle.lloyd.specs.Quantizer.{quantized};
-ghost use Rattle.rhdh.specs.Binary32.{fwht32};
+ghost use Rattle.fwht.specs.Binary32.{fwht32};
 
 #[no_mangle]
 pub extern "C" fn vecq_f32_to_f16_bits(x: u32) -> u16
@@ -39,5 +39,5 @@ pub extern "C" fn vecq_quantize(x: f32, bits: u8) -> u8
 pub extern "C" fn vecq_fwht(v: &mut [f32])
     ensures { λ _. ⌜ now (v .exit) ≡ fwht32 (now (v .entry)) ⌝ }
 {
-    rhdh::fwht(v)
+    fwht::fwht(v)
 }

@@ -19,7 +19,7 @@
 // 65,536.) For an infinity it has those at p, p - 1 and p + 1, for a NaN the one at p. Patterns are counted modulo 2^32.
 ghost use Prim.Native.Nat.{_<_};
 use rhdh::Rhdh;
-use rhdh::SignStream;
+use signs::SignStream;
 
 fn main() {
     let mut buf = input();
@@ -166,7 +166,7 @@ fn reply_to(c: usize, a: u64, b: u64) -> Reply {
         0 => shown(half::f16_bits_to_f32((a % 0x10000) as u16) as u64, 8),
         1 => shown(narrow((a % 0x1_0000_0000) as u32), 4),
         2 => shown_float(sqrt::sqrt(float(a))),
-        3 => shown(rhdh::padded_dim(a as usize) as u64, 1),
+        3 => shown(padding::padded_dim(a as usize) as u64, 1),
         4 => shown(lloyd::levels((a % 0x100) as u8) as u64, 1),
         5 => shown(lloyd::quantize(float(b), (a % 0x100) as u8) as u64, 1),
         _ => shown_float(lloyd::dequantize((b % 0x100) as u8, (a % 0x100) as u8)),
@@ -298,7 +298,7 @@ fn put_transformed(out: &mut [u8], line: &[u8], i: usize, rotated: bool, x: Numb
 }
 
 fn put_fwht(out: &mut [u8], v: &mut [f32]) -> usize {
-    rhdh::fwht(v);
+    fwht::fwht(v);
     print::put_vector(out, 0, v)
 }
 

@@ -69,7 +69,7 @@ fn put_code(
     requires { ⌜ Codable header (dataOf codes scales codes2 scales2) slot (now v) ⌝ }
     ensures { λ _. ⌜ dataOf (codes .exit) (scales .exit) (codes2 .exit) (scales2 .exit) ≡ putCode header (dataOf (codes .entry) (scales .entry) (codes2 .entry) (scales2 .entry)) fresh slot (now (v .entry)) ⌝ }
 {
-    let size = codes::bytes_per_vector(rhdh::padded_dim(header.working), header.width);
+    let size = codes::bytes_per_vector(padding::padded_dim(header.working), header.width);
     let from = slot * size;
     let to = from + size;
     if header.residual {

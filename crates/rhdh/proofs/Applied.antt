@@ -8,10 +8,10 @@ use lib.Ieee.{Float, binary32, nan}
 use lib.ListN.{length, take, drop}
 use lib.Seq.{length-take-le}
 use Rattle.lists.specs.Lists.{over}
-use Rattle.rhdh.specs.Padded.{exponent, paddedDim, isPowerOfTwo}
+use Rattle.padding.specs.Padded.{exponent, paddedDim, isPowerOfTwo}
 use Rattle.rhdh.specs.Rotation.{signed, rotated, applied}
-use Rattle.rhdh.proofs.Powers.{padded-pow, padded-fixed}
-use Rattle.rhdh.proofs.Spans.{fwht-length}
+use Rattle.padding.proofs.Powers.{padded-pow, padded-fixed}
+use Rattle.fwht.proofs.Spans.{fwht-length}
 use Rattle.rhdh.proofs.Written.{signed-length}
 
 pub rotated-length : (n seed : ℕ) (v : List Float) → length (rotated n seed v) ≡ n

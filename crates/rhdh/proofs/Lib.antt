@@ -1,11 +1,3 @@
--- Laws that the proofs of this crate's functions cite.
-pub mod Powers
-mod Product
-pub mod Signs
-mod Columns
-pub mod Passes
-mod Turns
-mod Walks
-pub mod Spans
+-- Laws that the proofs of this crate's functions cite, and those of the crates above.
 mod Written
 pub mod Applied

@@ -10,7 +10,7 @@ use lib.Ieee.{Float, binary32}
 use lib.ListN.{length, getD, set}
 use Rattle.lists.specs.Lists.{tab, over}
 use Rattle.lists.proofs.Laws.{length-tab, zip-tab, length-over, over-all, over-more}
-use Rattle.rhdh.specs.Signs.{start, step, output, sign, state, signAt, signs}
+use Rattle.signs.specs.Signs.{start, step, output, sign, state, signAt, signs}
 use Rattle.pattern.specs.Binary32.{+0}
 use Rattle.rhdh.specs.Rotation.{padTo, signed}
 

@@ -1,7 +1,2 @@
--- What the contracts of this crate cite.
-pub mod Signs
-pub mod Padded
-pub mod Fwht
-pub mod InPlace
-pub mod Binary32
+-- What the contracts of this and of other crates cite.
 pub mod Rotation

@@ -7,9 +7,9 @@ use lib.Ieee.{Float}
 use lib.ListN.{length, getD}
 use Rattle.pattern.specs.Binary32.{_⊗_, +0}
 use Rattle.lists.specs.Lists.{tab, zipWith, over}
-use Rattle.rhdh.specs.Padded.{isPowerOfTwo}
-use Rattle.rhdh.specs.Signs.{signs}
-use Rattle.rhdh.specs.Binary32.{fwht32}
+use Rattle.padding.specs.Padded.{isPowerOfTwo}
+use Rattle.signs.specs.Signs.{signs}
+use Rattle.fwht.specs.Binary32.{fwht32}
 
 -- the first n entries of v, with +0 past its end
 unfoldable pub padTo : ℕ → List Float → List Float

@@ -11,7 +11,7 @@ use lib.Dec.{leb}
 use lib.Ieee.{Float}
 use borrow.Author.Tests.{leb-true}
 use Rattle.lists.specs.Lists.{over}
-use Rattle.rhdh.specs.Padded.{paddedDim}
+use Rattle.padding.specs.Padded.{paddedDim}
 use Rattle.lloyd.specs.Tables.{centroidsOf}
 use Rattle.codes.specs.Packing.{bytesPerVector}
 use Rattle.codes.specs.Slots.{blockAt}

@@ -23,7 +23,7 @@ use score::Scored;
 fn is_tiny(index: Index) -> bool
     ensures { λ r. ⌜ r ≡ tiny (headerOf index) ⌝ }
 {
-    if rhdh::padded_dim(index.working_dim) == 1 {
+    if padding::padded_dim(index.working_dim) == 1 {
         return index.bits == 4;
     }
     false
@@ -79,7 +79,7 @@ fn score_prepared(
         (stageAt (headerOf index) (now (scales .entry)) (now (codes .entry)) slot)
         (cond (index .residual) (some (stageAt (headerOf index) (now (scales2 .entry)) (now (codes2 .entry)) slot)) none)) ⌝ }
 {
-    let size = codes::bytes_per_vector(rhdh::padded_dim(index.working_dim), index.bits);
+    let size = codes::bytes_per_vector(padding::padded_dim(index.working_dim), index.bits);
     let scale = scale_at(scales, slot);
     let block = codes::slot_codes(codes, slot, size);
     if index.residual {
@@ -109,7 +109,7 @@ fn score_by_width(
 {
     let n = lloyd::levels(index.bits);
     let centroids = lloyd::centroids(index.bits);
-    let padded = rhdh::padded_dim(index.working_dim);
+    let padded = padding::padded_dim(index.working_dim);
     let mut prepared = floats();
     unit::prepare(index.working_dim, index.seed, query, &mut prepared);
     score_prepared(

@@ -6,8 +6,8 @@ use native.Mathlib.Omega.{arith}
 use borrow.Author.Tests.{le-leb, leb-true, not-true, not-false}
 use lib.Dec.{leb}
 use Rattle.digits.proofs.Below.{both}
-use Rattle.rhdh.specs.Padded.{paddedDim}
-use Rattle.rhdh.proofs.Powers.{padded-least}
+use Rattle.padding.specs.Padded.{paddedDim}
+use Rattle.padding.proofs.Powers.{padded-least}
 use Rattle.unit.specs.Calls.{rotatable}
 
 -- a call that answers a test, after the test `!` of its answer

@@ -14,9 +14,9 @@ use Rattle.lists.specs.Lists.{over}
 use Rattle.lists.proofs.Laws.{over-all}
 use Rattle.pattern.specs.Binary32.{sumSquares}
 use Rattle.sqrt.specs.Root.{SquareRoot}
-use Rattle.rhdh.specs.Padded.{exponent, paddedDim, isPowerOfTwo}
+use Rattle.padding.specs.Padded.{exponent, paddedDim, isPowerOfTwo}
 use Rattle.rhdh.specs.Rotation.{rotated, applied}
-use Rattle.rhdh.proofs.Powers.{padded-least, padded-pow, padded-fixed}
+use Rattle.padding.proofs.Powers.{padded-least, padded-pow, padded-fixed}
 use Rattle.rhdh.proofs.Applied.{rotated-length}
 use Rattle.unit.specs.Unit.{sumFault, vectorFault, norm, divided, unit, rotatedBy, rnorm, prepared}
 use Rattle.unit.specs.Calls.{rotatable, rotatedInto, query, preparedInto}

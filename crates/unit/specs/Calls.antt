@@ -7,7 +7,7 @@ use lib.ListN.{length}
 use lib.Ieee.{Float}
 use Rattle.lists.specs.Lists.{over}
 use Rattle.pattern.specs.Binary32.{+0}
-use Rattle.rhdh.specs.Padded.{paddedDim}
+use Rattle.padding.specs.Padded.{paddedDim}
 use Rattle.unit.specs.Unit.{rotatedBy, rnorm, prepared}
 
 -- working_dim is from 1 to 4,096, the vector has so many entries, and the rotated one has its places

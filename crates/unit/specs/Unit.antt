@@ -8,7 +8,7 @@ use lib.ListN.{length, take}
 use lib.Ieee.{Float, nan, inf, fin}
 use Rattle.pattern.specs.Binary32.{_⊘_, sumSquares}
 use Rattle.sqrt.specs.Root.{squareRoot}
-use Rattle.rhdh.specs.Padded.{paddedDim}
+use Rattle.padding.specs.Padded.{paddedDim}
 use Rattle.rhdh.specs.Rotation.{rotated}
 
 -- ---- the vector

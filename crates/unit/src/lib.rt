@@ -3,7 +3,7 @@ ghost use mathlib.Core.Path.{_≡_};
 ghost use mathlib.Core.Bool.{true};
 ghost use lib.ListN.{length};
 ghost use Rattle.pattern.specs.Binary32.{sumSquares};
-ghost use Rattle.rhdh.specs.Padded.{paddedDim};
+ghost use Rattle.padding.specs.Padded.{paddedDim};
 ghost use Rattle.rhdh.specs.Rotation.{applied};
 ghost use Rattle.unit.specs.Unit.{sumFault, vectorFault, norm, divided, unit, rotatedBy, rnorm, prepared};
 ghost use Rattle.unit.specs.Calls.{rotatable, rotatedInto, query, preparedInto};
@@ -104,7 +104,7 @@ pub fn is_rotatable(working_dim: usize, entries: usize, places: usize) -> bool
     if entries < working_dim {
         return false;
     }
-    rhdh::padded_dim(working_dim) <= places
+    padding::padded_dim(working_dim) <= places
 }
 
 // The working entries v, over their norm, padded and rotated.
@@ -145,6 +145,6 @@ pub fn prepare(working_dim: usize, seed: u64, q: &[f32], out: &mut [f32]) -> f32
     if !is_rotatable(working_dim, q.len(), out.len()) {
         return 0.0;
     }
-    let padded = rhdh::padded_dim(working_dim);
+    let padded = padding::padded_dim(working_dim);
     prepare_whole(working_dim, seed, q, &mut out[0..padded])
 }

@@ -8,10 +8,10 @@ use lib.Ieee.{binary32, size, add, sub, ofBits, toBits, nanBits}
 use Rattle.half.specs.Half.{narrowed, widened}
 use Rattle.sqrt.specs.Root.{rootBits, nearestRoot, last, reaches}
 use Rattle.half.specs.Binary.{magnitude, near, kept}
-use Rattle.rhdh.specs.Signs.{start, step, xorLeft, xorRight, output, sign}
-use Rattle.rhdh.specs.Padded.{isPowerOfTwo, exponent}
-use Rattle.rhdh.specs.Fwht.{fwht, pass, entry}
-use Rattle.rhdh.specs.Binary32.{fwht32}
+use Rattle.signs.specs.Signs.{start, step, xorLeft, xorRight, output, sign}
+use Rattle.padding.specs.Padded.{isPowerOfTwo, exponent}
+use Rattle.fwht.specs.Fwht.{fwht, pass, entry}
+use Rattle.fwht.specs.Binary32.{fwht32}
 use Rattle.codes.specs.Packing.{packed, bytesPerVector}
 use Rattle.score.specs.Order.{orderOfBits, orderNumber}
 use Rattle.choose.specs.Choose.{stay, choose}

@@ -10,7 +10,7 @@ use Rattle.encode.proofs.encode.Lts as lts
 use Rattle.encode.proofs.floats.Reads as floats-reads
 use Rattle.encode.proofs.is_encodable.Reads as is-encodable-reads
 use Rattle.encode.proofs.store_vector.Reads as store-vector-reads
-use Rattle.rhdh.proofs.padded_dim.Reads as padded-dim-reads
+use Rattle.padding.proofs.padded_dim.Reads as padded-dim-reads
 
 is-encodable-requires : tie.Need-is-encodable-requires
 is-encodable-requires c κs = search needs

@@ -7,7 +7,7 @@ use Rattle.encode.proofs.is_encodable.Reads as reads
 use Rattle.encode.proofs.is_encodable.Lts as lts
 use Rattle.stage.proofs.fits.Reads as fits-reads
 use Rattle.unit.proofs.is_rotatable.Reads as is-rotatable-reads
-use Rattle.rhdh.proofs.padded_dim.Reads as padded-dim-reads
+use Rattle.padding.proofs.padded_dim.Reads as padded-dim-reads
 
 is-rotatable-requires : tie.Need-is-rotatable-requires
 is-rotatable-requires c κs = search needs

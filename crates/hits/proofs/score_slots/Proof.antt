@@ -4,7 +4,7 @@ use native.Mathlib.Omega.{arith}
 use mathlib.Core.Path.{_≡_, ap, _∙_}
 use Prim.Native.Nat.{ℕ, _≤_}
 use denote.Ref.{now}
-use Rattle.rhdh.specs.Padded.{paddedDim}
+use Rattle.padding.specs.Padded.{paddedDim}
 use Rattle.codes.specs.Packing.{bytesPerVector}
 use Rattle.codes.specs.Writing.{atWidth}
 use Rattle.codes.proofs.Tests.{at-width}

@@ -1,7 +1,7 @@
 -- `rhdh::rotate` meets its contract.
 use mathlib.Core.Path.{ap, _∙_}
 use borrow.Author.Needs.{needs}
-use Rattle.rhdh.specs.Binary32.{fwht32}
+use Rattle.fwht.specs.Binary32.{fwht32}
 use Rattle.rhdh.specs.Rotation.{rotated}
 use Rattle.rhdh.proofs.rotate.Statement.{statement}
 use Rattle.rhdh.proofs.rotate.Tie as tie

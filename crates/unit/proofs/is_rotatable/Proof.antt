@@ -5,7 +5,7 @@ use Rattle.unit.proofs.is_rotatable.Statement.{statement}
 use Rattle.unit.proofs.is_rotatable.Tie as tie
 use Rattle.unit.proofs.is_rotatable.Reads as reads
 use Rattle.unit.proofs.is_rotatable.Lts as lts
-use Rattle.rhdh.proofs.padded_dim.Reads as padded-dim-reads
+use Rattle.padding.proofs.padded_dim.Reads as padded-dim-reads
 
 returns : tie.Need-returns
 unfolding rotatable

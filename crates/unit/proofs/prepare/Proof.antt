@@ -9,7 +9,7 @@ use Rattle.unit.proofs.prepare.Reads as reads
 use Rattle.unit.proofs.prepare.Lts as lts
 use Rattle.unit.proofs.is_rotatable.Reads as is-rotatable-reads
 use Rattle.unit.proofs.prepare_whole.Reads as prepare-whole-reads
-use Rattle.rhdh.proofs.padded_dim.Reads as padded-dim-reads
+use Rattle.padding.proofs.padded_dim.Reads as padded-dim-reads
 
 is-rotatable-requires : tie.Need-is-rotatable-requires
 is-rotatable-requires c κs = search needs

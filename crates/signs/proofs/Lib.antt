@@ -1,0 +1,3 @@
+-- Laws of the product from halves and of the sign stream.
+mod Product
+pub mod Signs
