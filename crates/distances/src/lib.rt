@@ -30,7 +30,7 @@ fn write_tops(query: &[f32], rnorm: f32, lanes: usize, tops: &mut [u8])
 {
     let mut i = 0;
     while i < lanes {
-        tops[i] = lloyd::quantize(query[i] * rnorm, 4) / 4;
+        tops[i] = quantizer::quantize(query[i] * rnorm, 4) / 4;
         i += 1;
     }
 }

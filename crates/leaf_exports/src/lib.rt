@@ -32,7 +32,7 @@ pub extern "C" fn vecq_sqrt(x: f32) -> f32
 pub extern "C" fn vecq_quantize(x: f32, bits: u8) -> u8
     ensures { λ r. ⌜ r ≡ quantized (boundariesOf bits) x ⌝ }
 {
-    lloyd::quantize(x, bits)
+    quantizer::quantize(x, bits)
 }
 
 #[no_mangle]

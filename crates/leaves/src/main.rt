@@ -168,8 +168,8 @@ fn reply_to(c: usize, a: u64, b: u64) -> Reply {
         2 => shown_float(sqrt::sqrt(float(a))),
         3 => shown(padding::padded_dim(a as usize) as u64, 1),
         4 => shown(lloyd::levels((a % 0x100) as u8) as u64, 1),
-        5 => shown(lloyd::quantize(float(b), (a % 0x100) as u8) as u64, 1),
-        _ => shown_float(lloyd::dequantize((b % 0x100) as u8, (a % 0x100) as u8)),
+        5 => shown(quantizer::quantize(float(b), (a % 0x100) as u8) as u64, 1),
+        _ => shown_float(quantizer::dequantize((b % 0x100) as u8, (a % 0x100) as u8)),
     }
 }
 

@@ -3,4 +3,3 @@ pub mod Sound
 pub mod Widths
 pub mod Quantized
 pub mod Places
-pub mod Summing

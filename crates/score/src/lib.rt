@@ -108,7 +108,7 @@ pub fn fold_eight(acc: [f32; 8]) -> f32
 }
 
 // The raw score of a block of 4 bits a code; +0 where block, query and table don't fit one another.
-pub fn score_scalar(block: &[u8], query: &[f32], centroids: &[f32]) -> f32
+fn score_scalar(block: &[u8], query: &[f32], centroids: &[f32]) -> f32
     ensures { λ r. ⌜ r ≡ ofBlock byteSums 4 (now (centroids .entry)) (now (block .entry)) (now (query .entry)) ⌝ }
 {
     if !fitting(4, centroids.len(), block.len(), query.len()) {
@@ -164,7 +164,7 @@ pub fn fold_four(acc: [f32; 4]) -> f32
 
 // The raw score of a block of 5 or 6 bits a code (at 4 bits it sums the same way, as in the Rust); +0 where block, query and
 // table don't fit one another.
-pub fn score_wide_scalar(block: &[u8], query: &[f32], centroids: &[f32], bits: u8) -> f32
+fn score_wide_scalar(block: &[u8], query: &[f32], centroids: &[f32], bits: u8) -> f32
     ensures { λ r. ⌜ r ≡ ofBlock indexSums bits (now (centroids .entry)) (now (block .entry)) (now (query .entry)) ⌝ }
 {
     if !fitting(bits, centroids.len(), block.len(), query.len()) {
@@ -175,7 +175,7 @@ pub fn score_wide_scalar(block: &[u8], query: &[f32], centroids: &[f32], bits: u
 }
 
 // The raw score of a block by its width (`score_raw_dispatch`, without the vector instructions).
-pub fn raw_score(bits: u8, centroids: &[f32], block: &[u8], query: &[f32]) -> f32
+fn raw_score(bits: u8, centroids: &[f32], block: &[u8], query: &[f32]) -> f32
     ensures { λ r. ⌜ r ≡ rawOfBlock bits (now (centroids .entry)) (now (block .entry)) (now (query .entry)) ⌝ }
 {
     if bits == 4 {

@@ -39,7 +39,7 @@ fn decode(centroids: &[f32], codes: &[u8], out: &mut [f32])
 {
     let mut i = 0;
     while i < codes.len() {
-        out[i] = lloyd::dequantize_in(centroids, codes[i] as usize);
+        out[i] = quantizer::dequantize_in(centroids, codes[i] as usize);
         i += 1;
     }
 }
@@ -49,9 +49,9 @@ fn pack(codes: &[u8], bits: u8, fresh: bool, block: &mut [u8])
     ensures { λ _. ⌜ now (block .exit) ≡ written bits (now (codes .entry)) (spareAfter fresh bits (length (now (codes .entry))) (now (block .entry))) (now (block .entry)) ⌝ }
 {
     if fresh {
-        codes::pack_new(block, codes, bits);
+        packing::pack_new(block, codes, bits);
     } else {
-        codes::pack_over(block, codes, bits);
+        packing::pack_over(block, codes, bits);
     }
 }
 
@@ -71,7 +71,7 @@ fn store_fitting(
     ensures values { λ _. ⌜ now (d .exit) ≡ dequantized (table (now (boundaries .entry)) (now (centroids .entry))) (now (xs .entry)) ⌝ }
     ensures block { λ _. ⌜ now (block .exit) ≡ packed bits (coded (now (boundaries .entry)) (now (xs .entry))) (spareAfter fresh bits (length (now (xs .entry))) (now (block .entry))) ⌝ }
 {
-    lloyd::quantize_all(boundaries, xs, codes);
+    quantizer::quantize_all(boundaries, xs, codes);
     pack(codes, bits, fresh, block);
     decode(centroids, codes, d);
 }
@@ -122,7 +122,7 @@ fn store_plain(
     requires { ⌜ length (now codes) ≡ length (now rotated) ⌝ }
     ensures { λ r. ⌜ stage r (now (block .exit)) ≡ stored bits (spareAfter fresh bits (length (now (rotated .entry))) (now (block .entry))) (plain (table (now (boundaries .entry)) (now (centroids .entry))) (now (rotated .entry))) ⌝ }
 {
-    let sum = lloyd::quantize_summing(boundaries, centroids, rotated, codes);
+    let sum = quantizer::quantize_summing(boundaries, centroids, rotated, codes);
     pack(codes, bits, fresh, block);
     let norm = sqrt::sqrt(sum);
     pattern::to_bits(1.0 / norm)

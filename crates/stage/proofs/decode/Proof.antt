@@ -9,7 +9,7 @@ use Rattle.stage.proofs.decode.Statement.{statement}
 use Rattle.stage.proofs.decode.Tie as tie
 use Rattle.stage.proofs.decode.Reads as reads
 use Rattle.stage.proofs.decode.Lts as lts
-use Rattle.lloyd.proofs.dequantize_in.Reads as dequantize-in-reads
+use Rattle.quantizer.proofs.dequantize_in.Reads as dequantize-in-reads
 
 abbrev Inv-loop : tie.InvT-loop
 Inv-loop centroids codes out₀ i₀ out i = Filled (decoded centroids codes) out₀ out i

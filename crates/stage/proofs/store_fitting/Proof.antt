@@ -9,7 +9,7 @@ use Rattle.stage.proofs.store_fitting.Reads as reads
 use Rattle.stage.proofs.store_fitting.Lts as lts
 use Rattle.stage.proofs.decode.Reads as decode-reads
 use Rattle.stage.proofs.pack.Reads as pack-reads
-use Rattle.lloyd.proofs.quantize_all.Reads as quantize-all-reads
+use Rattle.quantizer.proofs.quantize_all.Reads as quantize-all-reads
 
 quantize-all-requires : tie.Need-quantize-all-requires
 quantize-all-requires c κs = search needs

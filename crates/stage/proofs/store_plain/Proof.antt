@@ -7,7 +7,7 @@ use Rattle.stage.proofs.store_plain.Statement.{statement}
 use Rattle.stage.proofs.store_plain.Tie as tie
 use Rattle.stage.proofs.store_plain.Reads as reads
 use Rattle.stage.proofs.store_plain.Lts as lts
-use Rattle.lloyd.proofs.quantize_summing.Reads as quantize-summing-reads
+use Rattle.quantizer.proofs.quantize_summing.Reads as quantize-summing-reads
 use Rattle.pattern.proofs.to_bits.Reads as to-bits-reads
 use Rattle.sqrt.proofs.sqrt.Reads as sqrt-reads
 use Rattle.stage.proofs.pack.Reads as pack-reads

@@ -1,0 +1,2 @@
+-- Laws of many values coded one after the other.
+mod Summing
