@@ -1,10 +1,10 @@
--- `header::byte_at` meets its contract.
+-- `little_endian::byte_at` meets its contract.
 use mathlib.Core.Path.{sym}
 use native.Mathlib.Omega.{arith}
 use lib.ListN.{List·getD-eq-default}
 use borrow.Author.Needs.{needs}
-use Rattle.header.proofs.byte_at.Statement.{statement}
-use Rattle.header.proofs.byte_at.Tie as tie
+use Rattle.little_endian.proofs.byte_at.Statement.{statement}
+use Rattle.little_endian.proofs.byte_at.Tie as tie
 
 shared-slice-read-result : tie.Need-shared-slice-read-result
 shared-slice-read-result c = search needs

@@ -1,13 +1,13 @@
--- `header::little_endian` meets its contract.
+-- `little_endian::little_endian` meets its contract.
 use mathlib.Core.Path.{_≡_, sym, ap, ap₂, _∙_}
 use Prim.Native.Nat.{ℕ, _+_, _-_, _*_, _≤_, _<_}
 use native.Mathlib.Omega.{arith}
 use borrow.Author.Needs.{needs}
 use Rattle.digits.specs.Digits.{Below}
 use Rattle.index.specs.Read.{littleEndian}
-use Rattle.header.proofs.Numbers.{above, above-none, above-down, above-low, above-fits}
-use Rattle.header.proofs.little_endian.Statement.{statement}
-use Rattle.header.proofs.little_endian.Tie as tie
+use Rattle.little_endian.proofs.Numbers.{above, above-none, above-down, above-low, above-fits}
+use Rattle.little_endian.proofs.little_endian.Statement.{statement}
+use Rattle.little_endian.proofs.little_endian.Tie as tie
 
 abbrev Inv-loop : tie.InvT-loop
 Inv-loop bytes n value₀ i₀ value i = (i ≤ n) × (value ≡ above bytes n i)

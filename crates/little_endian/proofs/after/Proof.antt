@@ -1,12 +1,12 @@
--- `header::after` meets its contract.
+-- `little_endian::after` meets its contract.
 use mathlib.Core.Path.{sym}
 use native.Mathlib.Omega.{arith}
 use borrow.Author.Needs.{needs}
 use Prim.Native.Nat.{_-_}
 use lib.ListN.{length, drop, drop-of-length-le, length-drop}
 use lib.Seq.{take-all}
-use Rattle.header.proofs.after.Statement.{statement}
-use Rattle.header.proofs.after.Tie as tie
+use Rattle.little_endian.proofs.after.Statement.{statement}
+use Rattle.little_endian.proofs.after.Tie as tie
 
 sub-result : tie.Need-sub-result
 sub-result c = search needs
