@@ -126,8 +126,8 @@ fn answer_over(line: &[u8], out: &mut [u8]) -> usize {
     let x = header_at(line, 9);
     let mut block = bytes();
     let mut block2 = bytes();
-    let a = text::bytes_at(line, 6, &mut block);
-    let b = text::bytes_at(line, 7, &mut block2);
+    let a = values::bytes_at(line, 6, &mut block);
+    let b = values::bytes_at(line, 7, &mut block2);
     let n = a.length;
     let n2 = b.length;
     if !(x.ok && a.ok && b.ok) {
@@ -155,7 +155,7 @@ fn answer_blocks(
     out: &mut [u8],
 ) -> usize {
     let mut v = floats();
-    let x = text::vector_at(line, i, &mut v);
+    let x = values::vector_at(line, i, &mut v);
     let n = x.length;
     if x.ok {
         return put_encoding(out, header, fresh, &v[0..n], block, block2);
@@ -267,7 +267,7 @@ fn query_at(line: &[u8], count: usize, from: usize, i: usize, q: &mut [f32]) -> 
 {
     let s = space_at(line, count, from);
     let mut v = floats();
-    let x = text::vector_at(line, i, &mut v);
+    let x = values::vector_at(line, i, &mut v);
     let n = x.length;
     if !(s.ok && x.ok) {
         return no_query(false, 0);
@@ -379,7 +379,7 @@ fn put_score(out: &mut [u8], x: f32) -> usize {
 }
 
 fn answer_order(line: &[u8], out: &mut [u8]) -> usize {
-    let p = text::number_at(line, 1, 0xFFFF_FFFF);
+    let p = values::number_at(line, 1, 0xFFFF_FFFF);
     if text::field_count(line) != 2 {
         return print::put_unreadable(out);
     }
@@ -435,7 +435,7 @@ fn levels(width: u8) -> usize
 // The header of a line of count fields, from field 1 on.
 fn header_at(line: &[u8], count: usize) -> Heading {
     let w = width_at(line, 1);
-    let r = text::number_at(line, 2, 1);
+    let r = values::number_at(line, 2, 1);
     let s = space_at(line, count, 3);
     Heading {
         ok: w.ok && r.ok && s.ok,
@@ -450,7 +450,7 @@ fn header_at(line: &[u8], count: usize) -> Heading {
 }
 
 fn width_at(line: &[u8], i: usize) -> Width {
-    let w = text::number_at(line, i, 6);
+    let w = values::number_at(line, i, 6);
     Width {
         ok: w.ok && 4 <= w.value,
         width: w.value as u8,
@@ -461,9 +461,9 @@ fn width_at(line: &[u8], i: usize) -> Width {
 fn space_at(line: &[u8], count: usize, i: usize) -> Space
     requires { ⌜ i ≤ 3 ⌝ }
 {
-    let dim = text::number_at(line, i, 4096);
-    let working = text::number_at(line, i + 1, dim.value);
-    let seed = text::number_at(line, i + 2, u64::MAX);
+    let dim = values::number_at(line, i, 4096);
+    let working = values::number_at(line, i + 1, dim.value);
+    let seed = values::number_at(line, i + 2, u64::MAX);
     Space {
         ok: text::field_count(line) == count && dim.ok && working.ok && seed.ok,
         dim: dim.value as usize,
@@ -477,8 +477,8 @@ fn stage_at(line: &[u8], i: usize, block: &mut [u8]) -> Stage
     requires { ⌜ i ≤ 7 ⌝ }
     ensures { λ r. ⌜ r .length ≤ length (now (block .entry)) ⌝ }
 {
-    let p = text::number_at(line, i, 0xFFFF_FFFF);
-    let x = text::bytes_at(line, i + 1, block);
+    let p = values::number_at(line, i, 0xFFFF_FFFF);
+    let x = values::bytes_at(line, i + 1, block);
     Stage {
         ok: p.ok && x.ok,
         scale: p.value as u32,

@@ -25,7 +25,7 @@ use index::Made;
 use index::Written;
 use lines::Cursor;
 use score::Scored;
-use text::Number;
+use values::Number;
 
 // ---- the program's arrays
 
@@ -371,11 +371,11 @@ fn are_lengths(line: &[u8]) -> bool {
 }
 
 fn is_length(line: &[u8], i: usize, most: u64) -> bool {
-    text::number_at(line, i, most).ok
+    values::number_at(line, i, most).ok
 }
 
 fn length_at(line: &[u8], i: usize) -> usize {
-    text::number_at(line, i, u64::MAX).value as usize
+    values::number_at(line, i, u64::MAX).value as usize
 }
 
 fn lengths_of(line: &[u8]) -> Lengths {
@@ -460,7 +460,7 @@ fn argument(line: &[u8], i: usize, n: usize, most: u64) -> Number {
     if n < i {
         return Number { ok: true, value: 0 };
     }
-    text::number_at(line, i, most)
+    values::number_at(line, i, most)
 }
 
 fn request_of(line: &[u8], c: usize) -> Request {
@@ -588,7 +588,7 @@ fn reply_read(
     index: Index,
 ) -> Replied {
     let mut file = file_places();
-    let run = text::bytes_at(line, 1, &mut file);
+    let run = values::bytes_at(line, 1, &mut file);
     if !run.ok {
         return unreadable(out, index);
     }
@@ -1001,7 +1001,7 @@ fn reply_vector(
     index: Index,
 ) -> Replied {
     let mut v = entries();
-    let run = text::vector_at(line, number_count(c) + 1, &mut v);
+    let run = values::vector_at(line, number_count(c) + 1, &mut v);
     if !run.ok {
         return unreadable(out, index);
     }
@@ -1665,8 +1665,8 @@ struct Poke {
 }
 
 fn poke_of(line: &[u8]) -> Poke {
-    let i = text::number_at(line, 2, u64::MAX);
-    let x = text::number_at(line, 3, u64::MAX);
+    let i = values::number_at(line, 2, u64::MAX);
+    let x = values::number_at(line, 3, u64::MAX);
     let readable = i.ok && x.ok && text::field_count(line) == 4;
     let name = array_number(text::field(line, 1));
     Poke {
@@ -1761,7 +1761,7 @@ fn poke_flag(xs: &mut [bool], i: usize, x: u64) -> bool {
 fn reply_field(line: &[u8], out: &mut [u8], index: Index) -> Replied {
     let words = b"dim working_dim seed bits residual n live cascade";
     let field = text::word_number(words, text::field(line, 1));
-    let x = text::number_at(line, 2, greatest_of(field));
+    let x = values::number_at(line, 2, greatest_of(field));
     let readable = x.ok && text::field_count(line) == 3 && field < 8;
     if !readable {
         return unreadable(out, index);

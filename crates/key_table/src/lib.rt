@@ -13,13 +13,13 @@ ghost use Rattle.key_table.specs.Table.{slotsFrom, wordFrom, onFrom, wit
 fn entry_slot(table: &[u8], i: u32) -> usize
     ensures { λ r. ⌜ r ≡ entryFrom (now (table .entry)) i .slot ⌝ }
 {
-    header::rd_u32(header::after(table, 4 + i as usize * 12)) as usize
+    little_endian::rd_u32(little_endian::after(table, 4 + i as usize * 12)) as usize
 }
 
 fn entry_key(table: &[u8], i: u32) -> u64
     ensures { λ r. ⌜ r ≡ entryFrom (now (table .entry)) i .key ⌝ }
 {
-    header::rd_u64(header::after(table, 8 + i as usize * 12))
+    little_endian::rd_u64(little_endian::after(table, 8 + i as usize * 12))
 }
 
 // ---- the test

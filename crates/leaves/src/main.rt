@@ -119,7 +119,7 @@ fn no_numbers() -> Numbers {
 
 // The one number of the line, at most `most`.
 fn one(line: &[u8], most: u64) -> Numbers {
-    let a = text::number_at(line, 1, most);
+    let a = values::number_at(line, 1, most);
     Numbers {
         ok: a.ok && text::field_count(line) == 2,
         a: a.value,
@@ -132,8 +132,8 @@ fn two(line: &[u8], count: usize, most_a: u64, most_b: u64) -> Numbers {
     if text::field_count(line) != count {
         return no_numbers();
     }
-    let a = text::number_at(line, 1, most_a);
-    let b = text::number_at(line, 2, most_b);
+    let a = values::number_at(line, 1, most_a);
+    let b = values::number_at(line, 2, most_b);
     Numbers {
         ok: a.ok && b.ok,
         a: a.value,
@@ -286,7 +286,7 @@ fn midpoint(h: u16) -> u32 {
 // The vector in field i: rotated by a size and a seed, or only transformed.
 fn put_transformed(out: &mut [u8], line: &[u8], i: usize, rotated: bool, x: Numbers) -> usize {
     let mut v = entries();
-    let y = text::vector_at(line, i, &mut v);
+    let y = values::vector_at(line, i, &mut v);
     let n = y.length;
     if !y.ok {
         return print::put_unreadable(out);

@@ -109,10 +109,10 @@ fn half_of(file: &[u8], slot: u32) -> u16
 {
     let scales = header::stages_in(file);
     if header::version_in(file) == 1 {
-        let pattern = header::rd_u32(header::after(scales, slot as usize * 4));
+        let pattern = little_endian::rd_u32(little_endian::after(scales, slot as usize * 4));
         return half::f32_to_f16_bits(pattern);
     }
-    header::rd_u16(header::after(scales, slot as usize * 2))
+    little_endian::rd_u16(little_endian::after(scales, slot as usize * 2))
 }
 
 // ---- printing

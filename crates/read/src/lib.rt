@@ -76,7 +76,7 @@ fn second_in(file: &[u8], sizes: Sizes) -> &[u8]
     ensures { λ r. ⌜ now r ≡ secondIn (now (file .entry)) ⌝ }
 {
     let first = sizes.first;
-    header::after(header::stages_in(file), first)
+    little_endian::after(header::stages_in(file), first)
 }
 
 // What follows both stages.
@@ -85,7 +85,7 @@ fn table_in(file: &[u8], sizes: Sizes) -> &[u8]
     ensures { λ r. ⌜ now r ≡ tableIn (now (file .entry)) ⌝ }
 {
     let second = sizes.second;
-    header::after(second_in(file, sizes), second)
+    little_endian::after(second_in(file, sizes), second)
 }
 
 // How many key entries there are.
@@ -96,7 +96,7 @@ fn entry_count(file: &[u8], sizes: Sizes) -> u32
     if sizes.version < 259 {
         return 0;
     }
-    header::rd_u32(table_in(file, sizes))
+    little_endian::rd_u32(table_in(file, sizes))
 }
 
 fn table_length(version: u16, entries: u32) -> usize
@@ -214,9 +214,9 @@ fn scale_from(version: u16, bytes: &[u8]) -> u32
     ensures { λ r. ⌜ r ≡ scaleFrom version (littleEndian (scaleSize version) (now (bytes .entry))) ⌝ }
 {
     if version == 1 {
-        return header::rd_u32(bytes);
+        return little_endian::rd_u32(bytes);
     }
-    half::f16_bits_to_f32(header::rd_u16(bytes))
+    half::f16_bits_to_f32(little_endian::rd_u16(bytes))
 }
 
 fn read_scales(scales: &mut [u32], bytes: &[u8], version: u16, n: usize)
@@ -226,7 +226,7 @@ fn read_scales(scales: &mut [u32], bytes: &[u8], version: u16, n: usize)
     let size = scale_size(version);
     let mut i: usize = 0;
     while i < n {
-        scales[i] = scale_from(version, header::after(bytes, i * size));
+        scales[i] = scale_from(version, little_endian::after(bytes, i * size));
         i += 1;
     }
 }
@@ -259,7 +259,7 @@ fn read_stage(
     read_scales(scales, bytes, version, n);
     read_codes(
         codes,
-        header::after(bytes, n * scale_size(version)),
+        little_endian::after(bytes, n * scale_size(version)),
         n * block,
     );
 }

@@ -1,3 +1,2 @@
--- What the contracts of this crate cite: how a line is taken apart, and how its fields are read.
+-- What the contracts of this crate cite: how a line is taken apart.
 pub mod Fields
-pub mod Reading

@@ -1,6 +1,5 @@
 -- `header::width_in` meets its contract.
 use mathlib.Core.Path.{sym, ap, _∙_}
-use native.Mathlib.Omega.{arith}
 use borrow.Author.Tests.{eq-eqb, ne-eqb}
 use Rattle.index.specs.Read.{littleEndian, versionIn, headerIn}
 use borrow.Author.Needs.{needs}
@@ -13,15 +12,12 @@ version-in-requires c κs = search needs
 after-requires : tie.Need-after-requires
 after-requires c κs = search needs
 
-little-endian-requires : tie.Need-little-endian-requires
-little-endian-requires c κs = search needs
-
-cast-result : tie.Need-cast-result
-cast-result c = omega (arith, c .little-endian .ensures .1)
+rd-u8-requires : tie.Need-rd-u8-requires
+rd-u8-requires c κs = search needs
 
 returns : tie.Need-returns
 unfolding headerIn
-returns c = rw (eq-eqb (versionIn (c .before .before .before .before .before .args .file .now)) 261 (sym (c .before .before .before .version-in .ensures) ∙ c .before .before .if1 .taken)) (c .little-endian .ensures .0 ∙ ap (littleEndian 1) (c .before .after .ensures))
+returns c = rw (eq-eqb (versionIn (c .before .before .before .before .before .args .file .now)) 261 (sym (c .before .before .before .version-in .ensures) ∙ c .before .before .if1 .taken)) (c .rd-u8 .ensures ∙ ap (littleEndian 1) (c .before .after .ensures))
 
 returns-2 : tie.Need-returns-2
 unfolding headerIn
@@ -33,7 +29,6 @@ width-in-spec =
     (tie.spec
     version-in-requires
     after-requires
-    little-endian-requires
-    cast-result
+    rd-u8-requires
     returns
     returns-2)

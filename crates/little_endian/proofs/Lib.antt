@@ -1,0 +1,2 @@
+-- Laws of little-endian numbers.
+mod Numbers

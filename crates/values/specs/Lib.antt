@@ -1,0 +1,2 @@
+-- What the contracts of this crate cite: how a field is read.
+pub mod Reading
