@@ -1,7 +1,9 @@
--- Laws that other crates may cite: of the layout (Packing), of where a code begins (Index) and the two bytes in which it lies (TwoBytes), of the definitions
--- that contracts cite (Tests, Slots).
+-- Laws that other crates may cite: of the layout (Packing), of one code replaced (OneCode), of the definitions that contracts cite (Tests, Slots).
 pub mod Packing
-pub mod Index
-pub mod TwoBytes
+pub mod OneCode
 pub mod Tests
 pub mod Slots
+mod Index
+mod TwoBytes
+mod AllCodes
+mod Eights

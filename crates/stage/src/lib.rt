@@ -49,9 +49,9 @@ fn pack(codes: &[u8], bits: u8, fresh: bool, block: &mut [u8])
     ensures { λ _. ⌜ now (block .exit) ≡ written bits (now (codes .entry)) (spareAfter fresh bits (length (now (codes .entry))) (now (block .entry))) (now (block .entry)) ⌝ }
 {
     if fresh {
-        packing::pack_new(block, codes, bits);
+        codes::pack_new(block, codes, bits);
     } else {
-        packing::pack_over(block, codes, bits);
+        codes::pack_over(block, codes, bits);
     }
 }
 

@@ -4,8 +4,8 @@ use Rattle.stage.proofs.pack.Statement.{statement}
 use Rattle.stage.proofs.pack.Tie as tie
 use Rattle.stage.proofs.pack.Reads as reads
 use Rattle.stage.proofs.pack.Lts as lts
-use Rattle.packing.proofs.pack_new.Reads as pack-new-reads
-use Rattle.packing.proofs.pack_over.Reads as pack-over-reads
+use Rattle.codes.proofs.pack_new.Reads as pack-new-reads
+use Rattle.codes.proofs.pack_over.Reads as pack-over-reads
 
 pack-new-requires : tie.Need-pack-new-requires
 pack-new-requires c κs = search needs
