@@ -20,7 +20,7 @@ use Rattle.index.specs.Arrays.{Arrays}
 use Rattle.index.specs.State.{Slot, live, headerOf, capacity, stageAt, slotAt, stateOf, recordOf, aliveOf, hasKey, keyWord, position, joined, seconds, scalesOf, blocksOf, overlay}
 use Rattle.index.specs.Fit.{fit}
 use Rattle.index.specs.Step.{any, rising, compacted, withSlots, step, compact, done}
-use Rattle.index.specs.Call.{call, written}
+use Rattle.index.specs.Call.{call}
 use Rattle.index.specs.Answers.{result}
 use Rattle.index.specs.Sound.{Shaped, AllShaped}
 use Rattle.index.proofs.Fits.{slots-shaped}

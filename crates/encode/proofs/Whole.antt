@@ -1,14 +1,13 @@
 -- A whole vector into a slot's blocks.
-use mathlib.Core.Path.{_≡_, refl, sym, ap, _∙_}
+use mathlib.Core.Path.{_≡_, refl, ap, _∙_}
 use mathlib.Core.Bool.{Bool, true, false, cond}
 use mathlib.Core.List.{List}
-use mathlib.Core.Option.{none, some}
+use mathlib.Core.Option.{some}
 use Prim.Native.Nat.{ℕ}
 use native.Mathlib.Nat.{le-refl}
 use borrow.Author.Tests.{eq-eqb}
 use lib.ListN.{length}
 use lib.Ieee.{Float}
-use Rattle.encode.specs.declared.Scales.{Scales}
 use Rattle.encode.specs.Header.{Header, padded}
 use Rattle.unit.specs.Calls.{rotatedInto}
 use Rattle.unit.proofs.Rotatable.{is-rotatable}

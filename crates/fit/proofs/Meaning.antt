@@ -1,6 +1,6 @@
 -- 13's test means what its clauses say.
 use mathlib.Core.Path.{_≡_, refl, sym, _∙_}
-use mathlib.Core.Bool.{Bool, true, false, not, _||_, true≢false}
+use mathlib.Core.Bool.{true, false, not, _||_}
 use Prim.Native.Nat.{ℕ, _≤_}
 use lib.ListN.{getD}
 use lib.Dec.{leb, eqb}

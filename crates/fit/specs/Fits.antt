@@ -37,7 +37,7 @@ EachMarked keyed alive n = (i : ℕ) → i < n → Marked (getD keyed i false) (
 abbrev pub liveMarks : List ℕ → ℕ → ℕ
 liveMarks alive n = count (λ m. eqb m 1) (tab (λ i. getD alive i 0) n)
 
--- "a wrong live count"
+-- that of each slot in use, and "a wrong live count"
 pub record Marks (keyed : List Bool) (alive : List ℕ) (n live : ℕ) : Type 0 where
   pub slot : EachMarked keyed alive n
   pub count : live ≡ liveMarks alive n

@@ -8,7 +8,7 @@ use native.Mathlib.Omega.{arith}
 use borrow.Author.Count.{below-more}
 use borrow.Author.Tests.{not-true}
 use lib.Dec.{T}
-use lib.ListN.{length, drop, getD, set}
+use lib.ListN.{length, getD, set}
 use lib.Ieee.{Float, nan, isNan}
 use Rattle.pattern.specs.Binary32.{+0}
 use Rattle.lists.specs.Lists.{tab, over}

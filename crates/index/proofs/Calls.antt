@@ -1,13 +1,12 @@
 -- How a call on a record and arrays comes from the step of their value: what the proof of each call begins with.
 use mathlib.Core.Path.{_≡_, ap, _∙_}
 use mathlib.Core.Bool.{true, false}
-use Prim.Native.Nat.{ℕ}
 use Rattle.index.specs.declared.Index.{Index}
 use Rattle.index.specs.Arrays.{Arrays}
 use Rattle.index.specs.State.{headerOf, capacity, stateOf}
 use Rattle.index.specs.Fit.{fit}
 use Rattle.index.specs.Step.{Op, Answer, refused, Outcome, answered, step}
-use Rattle.index.specs.Call.{Result, written, call}
+use Rattle.index.specs.Call.{written, call}
 use Rattle.index.specs.Answers.{result}
 use Rattle.index.proofs.Fits.{overlay-self, record-self}
 

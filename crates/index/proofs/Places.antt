@@ -5,7 +5,7 @@ use mathlib.Core.List.{List, [], _∷_, _++_, map, map-append, append-nil}
 use mathlib.Core.Option.{Option, none, some}
 use Prim.Native.Nat.{ℕ, suc, _*_, _≤_, _<_}
 use native.Mathlib.Omega.{arith}
-use lib.ListN.{length, set, length-map, length-append}
+use lib.ListN.{length, set, length-map}
 use Rattle.lists.specs.Lists.{over, splice}
 use Rattle.lists.specs.Keep.{Each}
 use Rattle.lists.proofs.Laws.{length-over}

@@ -7,7 +7,6 @@ use mathlib.Core.List.{List}
 use lib.ListN.{length, take, drop, length-append}
 use lib.Seq.{take-append-seam}
 use lib.Ieee.{Float}
-use Rattle.lists.specs.Lists.{over}
 use Rattle.lloyd.specs.Tables.{zeros64, padded}
 
 -- `&places[0..n]` of an array that holds a table of n entries: it can be lent, and it is the table

@@ -5,14 +5,13 @@ use mathlib.Core.List.{List, [], _∷_}
 use Prim.Native.Nat.{ℕ, zero, suc, _+_, _≤_, _<_}
 use native.Mathlib.Numerals.{add-one}
 use native.Mathlib.Omega.{arith}
-use borrow.Author.Tests.{le-leb, lt-leb, leb-false, eqb-true}
+use borrow.Author.Tests.{le-leb, lt-leb, leb-false}
 use lib.Dec.{leb, eqb}
-use lib.ListN.{length, set, take}
+use lib.ListN.{length, set}
 use lib.Ieee.{Float}
 use Rattle.lists.proofs.Laws.{length-tab}
 use Rattle.lists.proofs.Keep.{count-length}
 use Rattle.codes.specs.Writing.{atWidth}
-use Rattle.pattern.specs.Binary32.{sumSquares}
 use Rattle.unit.proofs.Vectors.{has-length}
 use Rattle.encode.specs.Coded.{fault, noSpare}
 use Rattle.index.specs.declared.Index.{Index}

@@ -1,5 +1,5 @@
 -- Positions by slot number.
-use mathlib.Core.Path.{_≡_, refl, sym, ap, _∙_}
+use mathlib.Core.Path.{_≡_, sym, ap, _∙_}
 use mathlib.Core.Bool.{Bool, true, false, cond, true≢false}
 use mathlib.Core.Logic.{⊎-elim}
 use mathlib.Core.List.{List}

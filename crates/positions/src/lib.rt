@@ -2,10 +2,10 @@
 // shows it; else a tree does.
 ghost use mathlib.Core.Path.{_≡_};
 ghost use mathlib.Core.Bool.{true, false, cond};
-ghost use Prim.Native.Nat.{ℕ, suc, _+_, _^_, _≤_, _<_};
+ghost use Prim.Native.Nat.{suc, _+_, _^_, _≤_, _<_};
 ghost use lib.ListN.{length, getD};
 ghost use Rattle.position_tree.specs.Decides.{Decides};
-ghost use Rattle.position_tree.specs.Ordered.{lentKeys, Room, Ordered, AllFirst};
+ghost use Rattle.position_tree.specs.Ordered.{lentKeys, Room, Ordered};
 ghost use Rattle.positions.specs.Positions.{positionsFit, Follows, Rising, NoneKeyed, Climbing};
 
 fn wide(x: u32) -> usize

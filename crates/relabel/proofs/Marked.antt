@@ -19,7 +19,6 @@ use Rattle.index.specs.Fit.{fit}
 use Rattle.index.specs.Step.{Op, flag, onMark, marked}
 use Rattle.index.specs.Call.{written, call}
 use Rattle.index.specs.Answers.{result}
-use Rattle.index.specs.Sound.{marks}
 use Rattle.relabel.specs.Dead.{withLive}
 use Rattle.index.proofs.Fits.{overlay-self, record-self}
 use Rattle.index.proofs.Calls.{outcome, call-fits}

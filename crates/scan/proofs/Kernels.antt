@@ -6,7 +6,7 @@ use native.Mathlib.Nat.{add-assoc}
 use native.Mathlib.Omega.{arith}
 use lib.ListN.{length, take, drop, getD, replicate}
 use lib.Ieee.{Float, nan, binary32, ofBits}
-use Rattle.pattern.specs.Binary32.{_⊕_, _⊗_, sumFrom}
+use Rattle.pattern.specs.Binary32.{_⊕_, sumFrom}
 use Rattle.lists.specs.Lists.{tab}
 use Rattle.lists.proofs.Laws.{length-tab, getD-tab, tab-ext}
 use Rattle.digits.specs.Digits.{number, digits, Below}

@@ -1,27 +1,25 @@
 -- Raw scores by the tables are those of the blocks.
-use mathlib.Core.Path.{_≡_, refl, sym, ap, ap₂, subst, _∙_}
+use mathlib.Core.Path.{_≡_, refl, sym, ap, subst, _∙_}
 use mathlib.Core.Bool.{Bool, true, false, cond}
-use mathlib.Core.List.{List, []}
+use mathlib.Core.List.{List}
 use Prim.Native.Nat.{ℕ, _+_, _-_, _*_, _/_, _%_, _^_, _≤_, _<_}
 use native.Mathlib.Omega.{arith}
 use borrow.Author.Tests.{eqb-true, eq-eqb, ne-eqb, le-leb}
 use lib.Dec.{eqb}
 use lib.ListN.{length, take, drop, getD}
-use lib.Seq.{take-length, drop-length, length-take-le}
-use lib.Ieee.{Float, nan, binary32, ofBits}
+use lib.Seq.{take-length, drop-length}
+use lib.Ieee.{Float, binary32, ofBits}
 use Rattle.pattern.specs.Binary32.{_⊕_, _⊗_, +0, sumFrom, sum}
 use Rattle.lists.specs.Lists.{tab}
-use Rattle.lists.proofs.Laws.{length-tab}
 use Rattle.digits.specs.Digits.{Below}
 use Rattle.digits.proofs.Below.{below-take, below-drop}
 use Rattle.codes.specs.Packing.{bytesPerVector}
-use Rattle.codes.specs.Slots.{blockAt}
 use Rattle.codes.proofs.Slots.{block-there, length-block}
-use Rattle.score.specs.Lanes.{lanes, bracketed}
+use Rattle.score.specs.Lanes.{bracketed}
 use Rattle.score.specs.Score.{byteSums, indexSums, rawSums, blockProducts, byteTerms, fitting, ofBlock, rawOfBlock, stageScore}
 use Rattle.score.proofs.Products.{length-terms}
-use Rattle.scan.specs.Scan.{marked, stageOf, entryOf, entry}
-use Rattle.scan.specs.Pairs.{Paired, Halved, byteTerm, pairProducts}
+use Rattle.scan.specs.Scan.{marked, stageOf, entry}
+use Rattle.scan.specs.Pairs.{Paired, Halved, byteTerm}
 use Rattle.scan.specs.Groups.{partAt, byteLanes, wideLanes, rawBy, scoreBy, rawFrom, Summed, Raw, Changed, Grouped}
 use Rattle.scan.proofs.Products.{pair-products, byte-terms}
 use Rattle.scan.proofs.Entries.{changed-like, entry-like}

@@ -1,8 +1,8 @@
 -- Small steps: parts read and written entry by entry, bytes as a number, a slot's entry.
-use mathlib.Core.Path.{_≡_, refl, sym, ap, _∙_}
-use mathlib.Core.Bool.{Bool, true, false, cond}
-use mathlib.Core.List.{List, [], _∷_}
-use Prim.Native.Nat.{ℕ, suc, _+_, _-_, _*_, _≤_, _<_}
+use mathlib.Core.Path.{_≡_, sym, ap, _∙_}
+use mathlib.Core.Bool.{Bool, true, cond}
+use mathlib.Core.List.{List}
+use Prim.Native.Nat.{ℕ, suc, _+_, _-_, _*_, _≤_}
 use native.Mathlib.Nat.{add-zero}
 use native.Mathlib.Numerals.{add-one}
 use native.Mathlib.Omega.{arith}
@@ -11,7 +11,7 @@ use lib.Dec.{eqb, ltb}
 use lib.ListN.{length, take, drop, getD, set, length-drop}
 use lib.Seq.{sets, length-take-le, getD-take, getD-drop}
 use lib.Ieee.{Float, nan, binary32, ofBits}
-use Rattle.pattern.specs.Binary32.{_⊕_, _⊗_, +0}
+use Rattle.pattern.specs.Binary32.{_⊕_}
 use Rattle.lists.specs.Lists.{tab}
 use Rattle.lists.proofs.Laws.{tab-ext}
 use Rattle.lists.proofs.Entries.{entries}

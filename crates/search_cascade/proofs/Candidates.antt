@@ -8,7 +8,7 @@ use lib.Dec.{ltb, eqb}
 use lib.ListN.{length, length-map}
 use lib.Ieee.{Float}
 use Rattle.lists.specs.Lists.{tab, over}
-use Rattle.lists.specs.Keep.{bit, keep, count, Each}
+use Rattle.lists.specs.Keep.{bit, keep, count}
 use Rattle.lists.proofs.Laws.{length-tab, getD-tab}
 use Rattle.lists.proofs.Front.{getD-front, each-tab}
 use Rattle.lists.proofs.Keep.{keep-map, count-map, length-keep, keep-same}

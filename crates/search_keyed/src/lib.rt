@@ -1,14 +1,13 @@
 // Keyed search (document 01, store.rs): the keys of the live slots that score highest under a query, each once, with the score of its first hit.
 ghost use mathlib.Core.Path.{_≡_};
-ghost use Prim.Native.Nat.{min};
+ghost use mathlib.Core.List.{map};
+ghost use Prim.Native.Nat.{_≤_, min};
 ghost use lib.ListN.{length};
+ghost use Rattle.lists.specs.Lists.{over};
 ghost use Rattle.index.specs.Arrays.{lent};
 ghost use Rattle.index.specs.Step as Step;
 ghost use Rattle.index.specs.Call.{call};
 ghost use Rattle.index.specs.Answers.{filed, files};
-ghost use mathlib.Core.List.{map};
-ghost use Prim.Native.Nat.{_≤_};
-ghost use Rattle.lists.specs.Lists.{over};
 ghost use Rattle.asking.specs.Faults.{searchFault};
 ghost use Rattle.search_keyed.specs.Named.{hitCount, keyedOf, namedAnswer, Files};
 use index::Found;

@@ -1,11 +1,9 @@
 -- What the calls for C leave, from what the calls leave and what is written of their answers.
 use mathlib.Core.Path.{_≡_, refl, sym, ap, _∙_}
-use mathlib.Core.Bool.{Bool, true, false, cond}
-use mathlib.Core.List.{List, [], _∷_}
+use mathlib.Core.List.{List, []}
 use Prim.Native.Nat.{ℕ, _≤_, _<_}
-use native.Mathlib.Omega.{arith}
 use lib.ListN.{length}
-use lib.Dec.{ltb, eqb}
+use lib.Dec.{ltb}
 use lib.Ieee.{Float}
 use borrow.Author.Tests.{le-ltb, lt-ltb}
 use Rattle.lists.specs.Lists.{over}
@@ -24,8 +22,8 @@ use Rattle.index.specs.Read.{Reading, readInto}
 use Rattle.words.specs.declared.Record.{Record}
 use Rattle.words.specs.declared.Record.the-variants as Record
 use Rattle.words.specs.Words.{wordsOf, recordIn, recordBeside}
-use Rattle.words.specs.Put.{Put, put, putWords, putMade, putFound, putWritten, PutBoth, putBoth, putAdded}
-use Rattle.words.specs.Exports.{byRecord, Left, left, leaves, adds, changes, reads, Listed, listed, lists, Filled, filled, writes}
+use Rattle.words.specs.Put.{Put, put, putMade, putFound, putWritten, PutBoth, putBoth, putAdded}
+use Rattle.words.specs.Exports.{byRecord, left, leaves, adds, changes, reads, listed, lists, filled, writes}
 use Rattle.words.proofs.Records.{eight, beside}
 use Rattle.words.proofs.Words.{words-put}
 

@@ -7,13 +7,12 @@ use lib.ListN.{length}
 use lib.Dec.{ltb}
 use lib.Ieee.{Float}
 use Rattle.lists.specs.Lists.{over}
-use Rattle.lists.specs.Keep.{bit}
 use Rattle.index.specs.declared.Index.{Index}
 use Rattle.index.specs.Arrays.{Arrays}
 use Rattle.index.specs.Step.{Op, Answer, refused, done, flag, slot, maybeSlot, maybeKey, scoreIs, hits, keyHits, size, bytes, write}
 use Rattle.index.specs.Call.{Result, call}
-use Rattle.index.specs.Answers.{Filed, files, Stored, stores}
-use Rattle.index.specs.Read.{Reading, readInto}
+use Rattle.index.specs.Answers.{files, stores}
+use Rattle.index.specs.Read.{readInto}
 use Rattle.words.specs.declared.Record.{Record}
 use Rattle.words.specs.declared.Record.the-variants as Record
 use Rattle.words.specs.Words.{wordsOf, recordIn, recordBeside}

@@ -1,6 +1,6 @@
 -- Document 01, "Worked by hand", the examples marked M: what a rule gives, beside what the document says, as one table with one statement. Each row applies the very definition
 -- that the contracts cite. A float stands as its binary32 pattern.
-use mathlib.Core.Bool.{Bool, true, false, _&&_, cond}
+use mathlib.Core.Bool.{Bool, true, false, _&&_}
 use mathlib.Core.List.{List, [], _∷_, map}
 use Prim.Native.Nat.{ℕ}
 use lib.Dec.{T, eqb}

@@ -1,9 +1,8 @@
 -- `codes::put_number` meets its contract: the first i bytes are in their places, and `rest` is what stands above them.
 use mathlib.Core.Path.{_≡_, refl, sym, _∙_}
-use Prim.Native.Nat.{_+_, _-_, _/_, _%_, _^_, _≤_}
+use Prim.Native.Nat.{_-_, _/_, _%_, _^_, _≤_}
 use native.Mathlib.Numerals.{add-one}
 use native.Mathlib.Omega.{arith}
-use borrow.Author.Needs.{needs}
 use lib.ListN.{length, getD, length-set}
 use denote.Ref.{now}
 use Rattle.lists.proofs.Laws.{begun, begun-next, begun-all, over-all}

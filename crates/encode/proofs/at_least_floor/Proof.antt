@@ -1,7 +1,6 @@
 use mathlib.Core.Path.{_∙_}
 use Rattle.encode.specs.Encode.{floor}
 use Rattle.encode.proofs.FloatTests.{larger-nan, larger-right, larger-left, floor-is}
-use borrow.Author.Needs.{needs}
 use Rattle.encode.proofs.at_least_floor.Statement.{statement}
 use Rattle.encode.proofs.at_least_floor.Tie as tie
 use Rattle.encode.proofs.at_least_floor.Reads as reads

@@ -1,6 +1,6 @@
 -- `hits::list` meets its contract.
 use borrow.Author.Needs.{needs}
-use Prim.Native.Nat.{ℕ, _-_, _≤_}
+use Prim.Native.Nat.{ℕ, _-_}
 use lib.Ieee.{Float}
 use denote.Ref.{now}
 use Rattle.index.specs.State.{headerOf}

@@ -4,7 +4,6 @@ use Prim.Native.Nat.{_-_}
 use lib.ListN.{length}
 use Rattle.score.proofs.Lanes.{InLanes}
 use Rattle.scan.proofs.Kernels.{lanes-none, bytesTerms, bytes-again, bytes-end}
-use Rattle.lists.proofs.Laws.{length-tab}
 use mathlib.Core.Path.{_≡_, refl}
 use Prim.Native.Nat.{_≤_, _%_}
 use Rattle.scan.proofs.byte_lanes.Statement.{statement}

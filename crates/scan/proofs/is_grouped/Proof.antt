@@ -1,8 +1,7 @@
 -- `scan::is_grouped` meets its contract.
 use borrow.Author.Needs.{needs}
 use native.Mathlib.Omega.{arith}
-use mathlib.Core.Path.{_≡_, sym, subst, _∙_}
-use Prim.Native.Nat.{_*_, _/_, _≤_}
+use mathlib.Core.Path.{sym, subst, _∙_}
 use native.Mathlib.Nat.{le-div-iff-mul-le}
 use lib.Dec.{T}
 use borrow.Author.Tests.{leb-true}

@@ -1,11 +1,11 @@
 -- `scan::lanes_five` meets its contract.
 use native.Mathlib.Omega.{arith}
 use mathlib.Core.Path.{_≡_, refl, ap, _∙_}
-use Prim.Native.Nat.{ℕ, _+_, _-_, _*_, _/_, _%_, _≤_}
+use Prim.Native.Nat.{ℕ, _-_, _*_, _/_, _%_, _≤_}
 use lib.ListN.{length, take, drop}
 use mathlib.Core.List.{List}
 use denote.Ref.{now}
-use Rattle.digits.specs.Digits.{number, Below}
+use Rattle.digits.specs.Digits.{number}
 use Rattle.score.proofs.Lanes.{InLanes}
 use Rattle.scan.specs.Pairs.{pairProducts}
 use Rattle.scan.proofs.Kernels.{lanes-none, wide-again, wide-end}

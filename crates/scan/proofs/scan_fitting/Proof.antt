@@ -1,8 +1,6 @@
 -- `scan::scan_fitting` meets its contract.
 use borrow.Author.Needs.{needs}
 use native.Mathlib.Omega.{arith}
-use mathlib.Core.Path.{_≡_}
-use Prim.Native.Nat.{_*_, _^_, _≤_}
 use lib.ListN.{length}
 use denote.Ref.{now}
 use Rattle.scan.specs.Scan.{stageOf, entry}

@@ -1,7 +1,5 @@
 -- `scan::stage_scores` meets its contract.
 use borrow.Author.Needs.{needs}
-use denote.Ref.{now}
-use Rattle.scan.specs.Scan.{stageOf}
 use Rattle.scan.proofs.Entries.{scanned-all, scanned-none}
 use Rattle.scan.proofs.stage_scores.Statement.{statement}
 use Rattle.scan.proofs.stage_scores.Tie as tie

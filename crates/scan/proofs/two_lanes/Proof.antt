@@ -1,7 +1,6 @@
 -- `scan::two_lanes` meets its contract.
 use native.Mathlib.Omega.{arith}
 use mathlib.Core.Path.{_≡_}
-use Prim.Native.Nat.{ℕ}
 use Rattle.scan.proofs.two_lanes.Statement.{statement}
 use Rattle.scan.proofs.two_lanes.Tie as tie
 

@@ -1,11 +1,7 @@
 -- `scan::word_six` meets its contract.
 use borrow.Author.Needs.{needs}
 use native.Mathlib.Omega.{arith}
-use Prim.Native.Nat.{_<_, _^_}
-use lib.ListN.{take, drop}
-use denote.Ref.{now}
-use Rattle.digits.specs.Digits.{number}
-use Rattle.scan.proofs.Steps.{five-bytes, six-bytes}
+use Rattle.scan.proofs.Steps.{six-bytes}
 use Rattle.scan.proofs.word_six.Statement.{statement}
 use Rattle.scan.proofs.word_six.Tie as tie
 

@@ -1,5 +1,4 @@
 use Rattle.unit.proofs.FloatTests.{fault-nan, fault-zero, fault-infinity, fault-minus-infinity, no-fault}
-use borrow.Author.Needs.{needs}
 use Rattle.unit.proofs.sum_fault.Statement.{statement}
 use Rattle.unit.proofs.sum_fault.Tie as tie
 use Rattle.unit.proofs.sum_fault.Reads as reads
