@@ -6,7 +6,6 @@ use Prim.Native.Nat.{ℕ, zero, suc, _<_}
 use native.Mathlib.Omega.{arith}
 use lib.Dec.{leb}
 use lib.ListN.{length, length-append}
-use lib.Ieee.{Float}
 use Rattle.lists.specs.Lists.{tab}
 use Rattle.lists.specs.Keep.{bit, count}
 use Rattle.lists.proofs.Laws.{length-tab}
@@ -15,21 +14,18 @@ use Rattle.encode.specs.declared.Header.{Header}
 use Rattle.encode.specs.Coded.{fault, noSpare}
 use Rattle.index.specs.declared.Index.{Index}
 use Rattle.index.specs.Arrays.{Arrays}
-use Rattle.index.specs.State.{Mark, Slot, isLive, live, headerOf, capacity, markOf, slotAt, stateOf, recordOf, overlay, putSlot}
+use Rattle.index.specs.State.{Mark, Slot, live, headerOf, capacity, markOf, slotAt, stateOf, recordOf, overlay, putSlot, newSlot, withCounts}
 use Rattle.index.specs.Fit.{fit}
 use Rattle.index.specs.Codec.{encoded}
-use Rattle.index.specs.Step.{firstOf, when, refused, slot, Outcome, withSlots, guarded, appended}
-use Rattle.index.specs.Call.{Result, written}
+use Rattle.index.specs.Step.{Item, firstOf, when, refused, slot, Outcome, withSlots, guarded, appended}
+use Rattle.index.specs.Call.{Result, laidOver}
 use Rattle.index.specs.Answers.{result}
 use Rattle.index.proofs.Encoded.{encoded-shaped}
 use Rattle.index.proofs.Fits.{overlay-self, record-self, fit-sound}
 use Rattle.index.proofs.Places.{overlay-more}
+use Rattle.index.proofs.Marks.{mark-live}
 use Rattle.place.specs.Place.{afterAdd, refusal, unlessRefused, appending}
 use Rattle.place.proofs.Calls.{refuse-misfit, accepted}
-
-mark-live : (on : Bool) (k p : ℕ) → isLive (markOf 1 on k p) ≡ true
-mark-live true k p = refl
-mark-live false k p = refl
 
 -- how many of the value's slots are live
 pub live-count : (x : Index) (a : Arrays) → fit x a ≡ true → count live (tab (slotAt (headerOf x) a) (x .n)) ≡ x .live
@@ -37,11 +33,11 @@ unfolding recordOf stateOf
 live-count x a e = ap (λ (y : Index). y .live) (record-self x a e)
 
 -- a refusal of the step
-pub step-refused : (x : Index) (a : Arrays) (e : fit x a ≡ true) (n : ℕ) (o : Outcome) → result x a (refused (suc n)) ≡ written a (guarded (stateOf x a) (suc n) o)
+pub step-refused : (x : Index) (a : Arrays) (e : fit x a ≡ true) (n : ℕ) (o : Outcome) → result x a (refused (suc n)) ≡ laidOver a (guarded (stateOf x a) (suc n) o)
 unfolding guarded
 step-refused x a e n o = λ j. result (sym (record-self x a e) j) (sym (overlay-self x a e) j) (refused (suc n))
 
-module _ (x : Index) (a : Arrays) (k : ℕ) (on : Bool) (p : ℕ) (v : List Float) where
+module _ (x : Index) (a : Arrays) (k : ℕ) (on : Bool) (p : ℕ) (v : Item) where
   abbrev h : Header
   h = headerOf x
 
@@ -52,7 +48,7 @@ module _ (x : Index) (a : Arrays) (k : ℕ) (on : Bool) (p : ℕ) (v : List Floa
   mark = markOf 1 on k p
 
   abbrev new : Slot
-  new = record { mark = mark; code = encoded h noSpare v }
+  new = newSlot mark (encoded h noSpare v)
 
   abbrev slots : List Slot
   slots = tab (slotAt h a) (x .n)
@@ -69,7 +65,7 @@ module _ (x : Index) (a : Arrays) (k : ℕ) (on : Bool) (p : ℕ) (v : List Floa
     many = length-tab (slotAt h a) (x .n)
 
     abbrev tests : ℕ → ℕ
-    tests n = firstOf (fault h v ∷ when (leb room n) 8 ∷ [])
+    tests n = firstOf (fault h (v .vector) ∷ when (leb room n) 8 ∷ [])
 
     abbrev grown : ℕ → Outcome
     grown n = record { state = withSlots (stateOf x a) false (slots ++ (new ∷ [])); answer = slot n }
@@ -88,27 +84,18 @@ module _ (x : Index) (a : Arrays) (k : ℕ) (on : Bool) (p : ℕ) (v : List Floa
     unfolding recordOf afterAdd stateOf
     record-is =
         let n : length (slots ++ (new ∷ [])) ≡ suc (x .n) = omega (arith, length-append slots (new ∷ []), many) in
-        let lives : count live (slots ++ (new ∷ [])) ≡ suc (x .live) = omega (arith, count-append live slots (new ∷ []), live-count x a e, ap bit (mark-live on k p)) in
-        λ j. record {
-          dim = x .dim;
-          «working_dim» = x .«working_dim»;
-          seed = x .seed;
-          bits = x .bits;
-          residual = x .residual;
-          n = n j;
-          live = lives j;
-          cascade = false;
-        }
+        let lives : count live (slots ++ (new ∷ [])) ≡ suc (x .live) = omega (arith, count-append live slots (new ∷ []), live-count x a e, ap bit (mark-live 1 on k p)) in
+        λ j. withCounts x (n j) (lives j) false
 
-    outcome : (n : ℕ) → tests (x .n) ≡ n → unlessRefused x a n done ≡ written a (guarded (stateOf x a) n (grown (x .n)))
+    outcome : (n : ℕ) → tests (x .n) ≡ n → unlessRefused x a n done ≡ laidOver a (guarded (stateOf x a) n (grown (x .n)))
     unfolding guarded
     outcome zero q =
         let below = accepted x a (x .n) room 7 v (refusal-is ∙ q) .below in
         λ j. result (sym record-is j) (sym (arrays-are below) j) (slot (x .n))
     outcome (suc n) q = step-refused x a e n (grown (x .n))
 
-    pub append-fits : appending x a k on p v ≡ written a (appended room (stateOf x a) mark v)
+    pub append-fits : appending x a k on p v ≡ laidOver a (appended room (stateOf x a) mark v)
     unfolding appending appended stateOf
     append-fits =
         ap (λ (n : ℕ). unlessRefused x a n done) refusal-is ∙ outcome (tests (x .n)) refl
-        ∙ (λ j. written a (guarded (stateOf x a) (tests (sym many j)) (grown (sym many j))))
+        ∙ (λ j. laidOver a (guarded (stateOf x a) (tests (sym many j)) (grown (sym many j))))

@@ -6,13 +6,13 @@ use native.Mathlib.Nat.{suc-mul, zero-mul}
 use native.Mathlib.Omega.{arith}
 use lib.ListN.{length, set, take, drop, length-set, length-map}
 use lib.Seq.{take-append-add, drop-append-add, drop-at, set-append-left}
-use Rattle.lists.specs.Lists.{over, splice}
+use Rattle.lists.specs.Lists.{over, splice, joined}
 use Rattle.lists.specs.Keep.{Each}
 use Rattle.lists.proofs.Front.{each-map}
 use Rattle.codes.specs.Stage.{Stage}
 use Rattle.encode.specs.declared.Header.{Header}
 use Rattle.encode.specs.Header.{blockSize}
-use Rattle.index.specs.State.{joined, scalesOf, blocksOf}
+use Rattle.index.specs.State.{scalesOf, blocksOf}
 use Rattle.index.proofs.Blocks.{length-joined}
 
 -- ---- one entry

@@ -7,7 +7,6 @@ use Prim.Native.Nat.{ℕ, zero, suc, _*_, _<_}
 use borrow.Author.Tests.{lt-leb, eqb-true, eqb-false, eq-eqb, ne-eqb}
 use lib.Dec.{eqb}
 use lib.ListN.{length, set, length-map}
-use lib.Ieee.{Float}
 use Rattle.lists.specs.Lists.{tab, over, splice}
 use Rattle.lists.specs.Keep.{Each}
 use Rattle.lists.proofs.Laws.{length-tab, tab-ext}
@@ -20,12 +19,12 @@ use Rattle.encode.specs.Header.{blockSize}
 use Rattle.encode.specs.Coded.{fault, spareOf}
 use Rattle.index.specs.declared.Index.{Index}
 use Rattle.index.specs.Arrays.{Arrays}
-use Rattle.index.specs.State.{Slot, live, headerOf, slotAt, stateOf, recordOf, aliveOf, hasKey, keyWord, position, seconds, scalesOf, blocksOf, overlay, putSlot}
+use Rattle.index.specs.State.{Slot, live, headerOf, slotAt, stateOf, recordOf, aliveOf, hasKey, keyWord, position, seconds, scalesOf, blocksOf, overlay, putSlot, withCode, withCounts}
 use Rattle.index.specs.Fit.{fit}
 use Rattle.index.specs.Sound.{Shaped, AllShaped}
 use Rattle.index.specs.Codec.{encoded}
-use Rattle.index.specs.Step.{firstOf, refused, slot, holdsAt, overwritten, Outcome, withSlots, guarded}
-use Rattle.index.specs.Call.{Result, written}
+use Rattle.index.specs.Step.{Item, firstOf, refused, slot, holdsAt, overwritten, Outcome, withSlots, guarded}
+use Rattle.index.specs.Call.{Result, laidOver}
 use Rattle.index.specs.Answers.{result}
 use Rattle.index.proofs.Encoded.{encoded-shaped}
 use Rattle.index.proofs.Overlay.{plain-none, residual-some, plain-seconds, residual-seconds, secondOf}
@@ -35,7 +34,7 @@ use Rattle.place.proofs.Calls.{refuse-misfit}
 use Rattle.add.proofs.Blocks.{map-set, each-set, blocks-set, scales-set}
 use Rattle.add.proofs.Append.{live-count, step-refused}
 
-module _ (x : Index) (a : Arrays) (i : ℕ) (v : List Float) where
+module _ (x : Index) (a : Arrays) (i : ℕ) (v : Item) where
   abbrev h : Header
   h = headerOf x
 
@@ -54,7 +53,7 @@ module _ (x : Index) (a : Arrays) (i : ℕ) (v : List Float) where
 
   -- the slot anew, and its stages
   abbrev new : Slot
-  new = record { mark = old i .mark; code = encoded h (spareOf h (old i .code)) v }
+  new = withCode (old i) (encoded h (spareOf h (old i .code)) v)
 
   own : Shaped h (new .code)
   own = encoded-shaped h (spareOf h (old i .code)) v
@@ -154,7 +153,7 @@ module _ (x : Index) (a : Arrays) (i : ℕ) (v : List Float) where
 
       -- with the answer to whether it holds that position
       abbrev changedIf : Slot → Bool → Slot
-      changedIf s b = record { mark = s .mark; code = cond b (encoded h (spareOf h (s .code)) v) (s .code) }
+      changedIf s b = withCode s (cond b (encoded h (spareOf h (s .code)) v) (s .code))
 
       abbrev after : ℕ → Slot
       after m = cond (eqb m i) new (old m)
@@ -196,34 +195,25 @@ module _ (x : Index) (a : Arrays) (i : ℕ) (v : List Float) where
       record-is : recordOf (withSlots (stateOf x a) false (map change slots)) ≡ afterAdd x (x .n) (x .live)
       unfolding recordOf afterAdd stateOf
       record-is =
-          λ t. record {
-            dim = x .dim;
-            «working_dim» = x .«working_dim»;
-            seed = x .seed;
-            bits = x .bits;
-            residual = x .residual;
-            n = (length-map slots change ∙ many) t;
-            live = (count-map change live slots ∙ live-count x a e) t;
-            cascade = false;
-          }
+          λ t. withCounts x ((length-map slots change ∙ many) t) ((count-map change live slots ∙ live-count x a e) t) false
 
       abbrev changes : Outcome
       changes = record { state = withSlots (stateOf x a) false (map change slots); answer = slot i }
 
       -- 9 does not come for a slot in use
-      refusal-is : refusal x a i (x .n) 9 v ≡ fault h v
+      refusal-is : refusal x a i (x .n) 9 v ≡ fault h (v .vector)
       unfolding refusal firstOf
-      refusal-is = rw (e, lt-leb (x .n) i l) (go (fault h v))
+      refusal-is = rw (e, lt-leb (x .n) i l) (go (fault h (v .vector)))
         where
           go : (n : ℕ) → firstOf (n ∷ 0 ∷ []) ≡ n
           go zero = refl
           go (suc n) = refl
 
-      outcome : (n : ℕ) → unlessRefused x a n done ≡ written a (guarded (stateOf x a) n changes)
+      outcome : (n : ℕ) → unlessRefused x a n done ≡ laidOver a (guarded (stateOf x a) n changes)
       unfolding guarded
       outcome zero = λ t. result (sym record-is t) (sym arrays-are t) (slot i)
       outcome (suc n) = step-refused x a e n changes
 
-      pub overwrite-fits : overwriting x a i v ≡ written a (guarded (stateOf x a) (fault h v) changes)
+      pub overwrite-fits : overwriting x a i v ≡ laidOver a (guarded (stateOf x a) (fault h (v .vector)) changes)
       unfolding overwriting
-      overwrite-fits = ap (λ (n : ℕ). unlessRefused x a n done) refusal-is ∙ outcome (fault h v)
+      overwrite-fits = ap (λ (n : ℕ). unlessRefused x a n done) refusal-is ∙ outcome (fault h (v .vector))

@@ -2,15 +2,17 @@
 ghost use mathlib.Core.Path.{_≡_};
 ghost use Rattle.index.specs.Arrays.{lent};
 ghost use Rattle.index.specs.Step as Step;
+ghost use Rattle.index.specs.Step.{itemOf};
 ghost use Rattle.index.specs.Call.{call};
 ghost use Rattle.index.specs.Answers.{added};
-ghost use Rattle.add.specs.Scanned.{scanned};
+ghost use Rattle.add.specs.Scanned.{scanEnd};
 use index::Added;
 use index::Index;
 
-// How many slots are scanned for a key: those in use, and none of a record that counts more than an index can have. It is refused by 13, and not after a scan without end.
+// How many slots are scanned for a key: those in use, and none of a record that counts more than an index can have. It is refused by 13, and not after a
+// scan without end.
 fn slots_to_scan(n: usize) -> usize
-    ensures { λ r. ⌜ r ≡ scanned n ⌝ }
+    ensures { λ r. ⌜ r ≡ scanEnd n ⌝ }
 {
     if 65536 < n {
         return 0;
@@ -31,7 +33,10 @@ pub fn add(
     scales2: &mut [u32],
     vector: &[f32],
 ) -> Added
-    ensures { λ r. ⌜ added index r (lent (codes .exit) (scales .exit) (keys .exit) (keyed .exit) (held .exit) (alive .exit) (codes2 .exit) (scales2 .exit)) ≡ call index (lent (codes .entry) (scales .entry) (keys .entry) (keyed .entry) (held .entry) (alive .entry) (codes2 .entry) (scales2 .entry)) (Step.add (now (vector .entry))) ⌝ }
+    ensures { λ r. ⌜
+        added index r (lent (codes .exit) (scales .exit) (keys .exit) (keyed .exit) (held .exit) (alive .exit) (codes2 .exit) (scales2 .exit))
+        ≡ call index (lent (codes .entry) (scales .entry) (keys .entry) (keyed .entry) (held .entry) (alive .entry) (codes2 .entry) (scales2 .entry))
+        (Step.add (itemOf (now (vector .entry)))) ⌝ }
 {
     // the word that stands for no key
     let key = 0;
@@ -66,7 +71,10 @@ pub fn add_keyed(
     key: u64,
     vector: &[f32],
 ) -> Added
-    ensures { λ r. ⌜ added index r (lent (codes .exit) (scales .exit) (keys .exit) (keyed .exit) (held .exit) (alive .exit) (codes2 .exit) (scales2 .exit)) ≡ call index (lent (codes .entry) (scales .entry) (keys .entry) (keyed .entry) (held .entry) (alive .entry) (codes2 .entry) (scales2 .entry)) (Step.addKeyed key (now (vector .entry))) ⌝ }
+    ensures { λ r. ⌜
+        added index r (lent (codes .exit) (scales .exit) (keys .exit) (keyed .exit) (held .exit) (alive .exit) (codes2 .exit) (scales2 .exit))
+        ≡ call index (lent (codes .entry) (scales .entry) (keys .entry) (keyed .entry) (held .entry) (alive .entry) (codes2 .entry) (scales2 .entry))
+        (Step.addKeyed key (itemOf (now (vector .entry)))) ⌝ }
 {
     let n = slots_to_scan(index.n);
     let slot = held::held_slot(keys, keyed, held, n, key, 0);
@@ -116,7 +124,10 @@ pub fn add_keyed_multi(
     key: u64,
     vector: &[f32],
 ) -> Added
-    ensures { λ r. ⌜ added index r (lent (codes .exit) (scales .exit) (keys .exit) (keyed .exit) (held .exit) (alive .exit) (codes2 .exit) (scales2 .exit)) ≡ call index (lent (codes .entry) (scales .entry) (keys .entry) (keyed .entry) (held .entry) (alive .entry) (codes2 .entry) (scales2 .entry)) (Step.addMulti key (now (vector .entry))) ⌝ }
+    ensures { λ r. ⌜
+        added index r (lent (codes .exit) (scales .exit) (keys .exit) (keyed .exit) (held .exit) (alive .exit) (codes2 .exit) (scales2 .exit))
+        ≡ call index (lent (codes .entry) (scales .entry) (keys .entry) (keyed .entry) (held .entry) (alive .entry) (codes2 .entry) (scales2 .entry))
+        (Step.addMulti key (itemOf (now (vector .entry)))) ⌝ }
 {
     let count = held::held_count(keys, keyed, slots_to_scan(index.n), key);
     place::append(

@@ -17,13 +17,14 @@ use Rattle.index.specs.Arrays.{Arrays}
 use Rattle.index.specs.State.{headerOf}
 use Rattle.index.specs.Codec.{tiny}
 use Rattle.index.specs.Fit.{fit}
-use Rattle.index.specs.Step.{hits, firstOf, when, unless, any, hitOf, hitsOf, queryRefusal}
+use Rattle.index.specs.Step.{Query, hits, firstOf, when, unless, hitOf, hitsOf, queryRefusal}
+use Rattle.lists.specs.Keep.{any}
 use Rattle.index.specs.Answers.{result, filed, files}
 use Rattle.fit.proofs.Meaning.{meaning}
 use Rattle.fit.proofs.Rooms.{enough}
 use Rattle.score_slot.specs.Query.{queryFault}
 use Rattle.score_slot.proofs.Query.{width-in, query-rotatable}
-use Rattle.hits.specs.Hits.{entered, chosen, listRefusal, shown, listAnswer, ready}
+use Rattle.hits.specs.Hits.{scoredSlots, chosen, listRefusal, shown, listAnswer, ready}
 use Rattle.asking.proofs.Cells.{scores, cells, hits-nan}
 
 -- ---- refusals one after the other
@@ -43,19 +44,19 @@ first-last (zero ∷ ms) ns = first-last ms ns
 first-last (suc m ∷ ms) ns = refl
 
 -- a query's refusals: those before any score, then 12 over the marked slots
-pub query-refusal : (h : Header) (a : Arrays) (q : List Float) (marks : List ℕ) (n : ℕ) →
+pub query-refusal : (h : Header) (a : Arrays) (q : Query) (marks : List ℕ) (n : ℕ) →
     queryRefusal h q (hitsOf h q (cells h a marks n)) ≡
-    firstOf (queryFault h (ltb 0 (length (cells h a marks n))) q ∷ when (any (λ e. isNan (e .1)) (entered (scores h a q) marks n)) 12 ∷ [])
+    firstOf (queryFault h (ltb 0 (length (cells h a marks n))) q ∷ when (any (λ e. isNan (e .1)) (scoredSlots (scores h a q) marks n)) 12 ∷ [])
 unfolding queryRefusal queryFault
 query-refusal h a q marks n =
     let cs = cells h a marks n in
-    (λ j. firstOf (fault h q ∷ when (tiny h && ltb 0 (length-map cs (hitOf h q) j)) 10 ∷ when (hits-nan h a q marks n j) 12 ∷ []))
-    ∙ sym (first-nested (fault h q ∷ when (tiny h && ltb 0 (length cs)) 10 ∷ []) (when (any (λ e. isNan (e .1)) (entered (scores h a q) marks n)) 12 ∷ []))
+    (λ j. firstOf (fault h (q .vector) ∷ when (tiny h && ltb 0 (length-map cs (hitOf h q) j)) 10 ∷ when (hits-nan h a q marks n j) 12 ∷ []))
+    ∙ sym (first-nested (fault h (q .vector) ∷ when (tiny h && ltb 0 (length cs)) 10 ∷ []) (when (any (λ e. isNan (e .1)) (scoredSlots (scores h a q) marks n)) 12 ∷ []))
 
 -- ---- the list of hits can be made
 
-pub is-ready : (x : Index) (a : Arrays) → fit x a ≡ true → (any : Bool) (q : List Float) → queryFault (headerOf x) any q ≡ 0 →
-    ready (x .n) (x .bits) (x .«working_dim») (length q) ≡ true
+pub is-ready : (x : Index) (a : Arrays) → fit x a ≡ true → (any : Bool) (q : Query) → queryFault (headerOf x) any q ≡ 0 →
+    ready (x .n) (x .bits) (x .«working_dim») (length (q .vector)) ≡ true
 unfolding ready
 is-ready x a e any q f =
     let w = width-in x a e in
@@ -66,7 +67,7 @@ is-ready x a e any q f =
 
 module _ (score : ℕ → Float) (marks : List ℕ) (n : ℕ) (can : Bool) (k places : ℕ) (yes : can ≡ true) where
   abbrev pub nan : Bool
-  nan = any (λ e. isNan (e .1)) (entered score marks n)
+  nan = any (λ e. isNan (e .1)) (scoredSlots score marks n)
 
   module _ (b : nan ≡ true) where
     pub nan-answer : listAnswer score marks n can k places ≡ Found.Refused 12

@@ -1,16 +1,15 @@
 -- What a search tests before any score, test by test.
 use mathlib.Core.Path.{_≡_, refl, ap, _∙_}
 use mathlib.Core.Bool.{true, false}
-use mathlib.Core.List.{List, [], _∷_}
+use mathlib.Core.List.{[], _∷_}
 use Prim.Native.Nat.{ℕ, zero, suc, _≤_, _<_, min, max}
 use lib.Dec.{ltb}
-use lib.Ieee.{Float}
 use borrow.Author.Tests.{lt-ltb, le-ltb}
 use Rattle.index.specs.declared.Index.{Index}
 use Rattle.index.specs.Arrays.{Arrays}
 use Rattle.index.specs.State.{headerOf}
 use Rattle.index.specs.Fit.{fit}
-use Rattle.index.specs.Step.{firstOf}
+use Rattle.index.specs.Step.{Query, firstOf}
 use Rattle.score_slot.specs.Query.{queryFault}
 use Rattle.asking.specs.Faults.{placesFault, searchFault}
 
@@ -28,7 +27,7 @@ module _ (x : Index) (a : Arrays) (k places : ℕ) where
     unfolding placesFault firstOf
     places-enough l = rw (e, le-ltb places (min (max k 1) (x .live)) l) refl
 
-  module _ (q : List Float) (n : ℕ) where
+  module _ (q : Query) (n : ℕ) where
     pub search-places : n ≡ placesFault x a k places → (n ≡ 0 → ⊥) → n ≡ searchFault x a q k places
     unfolding searchFault firstOf
     search-places e some = go n some ∙ ap (λ (m : ℕ). firstOf (m ∷ queryFault (headerOf x) (ltb 0 (x .live)) q ∷ [])) e

@@ -1,33 +1,26 @@
 -- The live slots of a value, by the live marks of its arrays.
-use mathlib.Core.Path.{_≡_, refl, sym, ap, _∙_}
-use mathlib.Core.Bool.{Bool, true, false}
+use mathlib.Core.Path.{_≡_, sym, ap, _∙_}
+use mathlib.Core.Bool.{true, false}
 use mathlib.Core.List.{map}
-use Prim.Native.Nat.{ℕ, zero, suc}
-use native.Mathlib.Omega.{arith}
+use Prim.Native.Nat.{ℕ}
 use lib.ListN.{length, length-map, getD}
-use lib.Dec.{ltb}
-use borrow.Author.Tests.{lt-ltb}
 use Rattle.lists.specs.Keep.{keep, count}
 use Rattle.lists.proofs.Keep.{length-keep, count-map}
 use Rattle.lists.proofs.Front.{map-tab}
 use Rattle.index.specs.declared.Index.{Index}
 use Rattle.index.specs.Arrays.{Arrays}
-use Rattle.index.specs.State.{isLive, live, headerOf, markOf, slotAt, stateOf, recordOf}
+use Rattle.index.specs.State.{live, headerOf, slotAt, stateOf, recordOf}
 use Rattle.index.specs.Fit.{fit}
 use Rattle.index.specs.Step.{liveFrom}
 use Rattle.index.proofs.Fits.{record-self}
-use Rattle.held.specs.Held.{below}
+use Rattle.index.proofs.Marks.{mark-live}
+use Rattle.lists.specs.Lists.{below}
 use Rattle.held.proofs.Live.{cellAt, live-tab}
-use Rattle.scan.specs.Scan.{marked}
+use Rattle.scan.specs.Scan.{takesPart}
 use Rattle.asking.proofs.Cells.{cells}
 
-mark-live : (mark : ℕ) (on : Bool) (k p : ℕ) → isLive (markOf mark on k p) ≡ ltb 0 mark
-mark-live zero on k p = refl
-mark-live (suc m) true k p = sym (lt-ltb 0 (suc m) (omega arith))
-mark-live (suc m) false k p = sym (lt-ltb 0 (suc m) (omega arith))
-
 module _ (x : Index) (a : Arrays) where
-  slot-live : (i : ℕ) → live (slotAt (headerOf x) a i) ≡ marked (a .alive) i
+  slot-live : (i : ℕ) → live (slotAt (headerOf x) a i) ≡ takesPart (a .alive) i
   unfolding slotAt
   slot-live i = mark-live (getD (a .alive) i 0) (getD (a .keyed) i false) (getD (a .keys) i 0) (getD (a .held) i 0)
 

@@ -8,7 +8,7 @@ use lib.ListN.{length, length-map}
 use lib.Dec.{ltb}
 use lib.Ieee.{Float, isNan}
 use borrow.Author.Tests.{ltb-false}
-use Rattle.lists.specs.Keep.{keep}
+use Rattle.lists.specs.Keep.{keep, any}
 use Rattle.lists.proofs.Laws.{length-tab}
 use Rattle.lists.proofs.Keep.{length-keep, count-length}
 use Rattle.choose.proofs.Choice.{choose-length}
@@ -17,42 +17,42 @@ use Rattle.index.specs.declared.Index.{Index}
 use Rattle.index.specs.Arrays.{Arrays}
 use Rattle.index.specs.State.{headerOf, slotAt, stateOf}
 use Rattle.index.specs.Fit.{fit}
-use Rattle.index.specs.Step.{Op, Answer, refused, firstOf, when, unless, any, Cell, liveFrom, Hit, shortResult, searched, answered, step}
+use Rattle.index.specs.Step.{Query, Op, Answer, refused, firstOf, when, unless, Cell, liveFrom, Hit, shortResult, searched, answered, step}
 use Rattle.index.specs.Call.{call}
 use Rattle.index.specs.Answers.{result}
 use Rattle.index.proofs.Calls.{call-misfit, call-answered}
 use Rattle.fit.proofs.Meaning.{meaning}
 use Rattle.fit.proofs.Rooms.{enough}
-use Rattle.held.specs.Held.{below}
+use Rattle.lists.specs.Lists.{below}
 use Rattle.held.proofs.Live.{cellAt}
 use Rattle.score_slot.specs.Query.{queryFault}
-use Rattle.scan.specs.Scan.{marked}
-use Rattle.hits.specs.Hits.{entered, chosen}
+use Rattle.scan.specs.Scan.{takesPart}
+use Rattle.hits.specs.Hits.{scoredSlots, chosen}
 use Rattle.asking.specs.Faults.{placesFault, searchFault}
 use Rattle.asking.proofs.Cells.{scores, cells, hit, hits-chosen}
 use Rattle.asking.proofs.Live.{live-cells, live-length}
 use Rattle.asking.proofs.Answers.{first-nested, first-last, query-refusal}
 
 -- the live slots, number and score
-abbrev pub liveEntered : Index → Arrays → (query : List Float) → List (ℕ × Float)
-liveEntered x a q = entered (scores (headerOf x) a q) (a .alive) (x .n)
+abbrev pub liveEntered : Index → Arrays → Query → List (ℕ × Float)
+liveEntered x a q = scoredSlots (scores (headerOf x) a q) (a .alive) (x .n)
 
 -- a live slot's score is NaN
-abbrev pub liveNan : Index → Arrays → (query : List Float) → Bool
+abbrev pub liveNan : Index → Arrays → Query → Bool
 liveNan x a q = any (λ e. isNan (e .1)) (liveEntered x a q)
 
 -- the hits among the live slots
-abbrev pub liveChosen : Index → Arrays → (query : List Float) → (k : ℕ) → List (ℕ × Float)
+abbrev pub liveChosen : Index → Arrays → Query → (k : ℕ) → List (ℕ × Float)
 liveChosen x a q k = chosen (scores (headerOf x) a q) (a .alive) (x .n) k
 
 -- the answer after all tests, n being their number
-abbrev pub shownBy : Index → Arrays → (query : List Float) → (k : ℕ) → (List Hit → Answer) → (n : ℕ) → Answer
+abbrev pub shownBy : Index → Arrays → Query → (k : ℕ) → (List Hit → Answer) → (n : ℕ) → Answer
 shownBy x a q k show n = unless n (show (map (hit (headerOf x) a) (liveChosen x a q k)))
 
-module _ (x : Index) (a : Arrays) (q : List Float) (k places : ℕ) where
+module _ (x : Index) (a : Arrays) (q : Query) (k places : ℕ) where
   -- the slots that are marked as live
   abbrev numbers : List ℕ
-  numbers = keep (marked (a .alive)) (below (x .n))
+  numbers = keep (takesPart (a .alive)) (below (x .n))
 
   abbrev queryNumber : ℕ
   queryNumber = queryFault (headerOf x) (ltb 0 (x .live)) q
@@ -87,8 +87,8 @@ module _ (x : Index) (a : Arrays) (q : List Float) (k places : ℕ) where
         ∙ ap (shownBy x a q k show) (tests w)
 
     -- as many hits as the result needs places
-    chosen-length : length (liveChosen x a q k) ≡ min (max k 1) (x .live)
-    unfolding entered
+    pub chosen-length : length (liveChosen x a q k) ≡ min (max k 1) (x .live)
+    unfolding scoredSlots
     chosen-length =
         choose-length (λ (y : ℕ × Float). orderNumber (y .1)) k (liveEntered x a q)
         ∙ ap (min (max k 1)) (length-map numbers (λ (i : ℕ). (i, scores (headerOf x) a q i)) ∙ many-numbers)
@@ -126,8 +126,8 @@ module _ (x : Index) (a : Arrays) (q : List Float) (k places : ℕ) where
           arith,
           chosen-length searched-fits,
           many-numbers searched-fits,
-          length-keep (marked (a .alive)) (below (x .n)),
-          count-length (marked (a .alive)) (below (x .n)),
+          length-keep (takesPart (a .alive)) (below (x .n)),
+          count-length (takesPart (a .alive)) (below (x .n)),
           length-tab (λ i. i) (x .n),
           enough (headerOf x) a (x .n) (meaning x a .yes searched-fits .room) .few,
         )

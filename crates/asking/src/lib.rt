@@ -2,11 +2,12 @@
 ghost use mathlib.Core.Path.{_≡_};
 ghost use Prim.Native.Nat.{min, max};
 ghost use Rattle.index.specs.Arrays.{lent};
+ghost use Rattle.index.specs.Step.{queryOf};
 ghost use Rattle.asking.specs.Faults.{placesFault, searchFault};
 use index::Index;
 
-// How many places a result needs.
-fn places_needed(k: usize, live: usize) -> usize
+// How many places a result needs, keyed too: as many as a search lists hits.
+pub fn places_needed(k: usize, live: usize) -> usize
     ensures { λ r. ⌜ r ≡ min (max k 1) live ⌝ }
 {
     if live < k {
@@ -81,7 +82,7 @@ pub fn search_fault(
 ) -> u8
     ensures { λ r. ⌜
         r ≡ searchFault index (lent (codes .entry) (scales .entry) (keys .entry) (keyed .entry) (held .entry) (alive .entry) (codes2 .entry) (scales2 .entry))
-        (now (query .entry)) k (min slots scores) ⌝ }
+        (queryOf (now (query .entry))) k (min slots scores) ⌝ }
 {
     let fault = places_fault(
         index,

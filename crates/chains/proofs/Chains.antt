@@ -14,8 +14,10 @@ use lib.Dec.{eqb}
 use borrow.Author.Tests.{eqb-true}
 use Rattle.lists.specs.Keep.{bit, count}
 use Rattle.lists.proofs.Keep.{count-append}
-use Rattle.index.proofs.Marks.{and-left, and-right}
-use Rattle.held.specs.Held.{below, slotHas, heldCount}
+use Rattle.lists.proofs.Tests.{and-left, and-right}
+use Rattle.slot_keys.specs.Has.{slotHas}
+use Rattle.held.specs.Held.{heldCount}
+use Rattle.lists.specs.Lists.{below}
 use Rattle.chains.specs.Chains.{chainOf, InChain, Latest, LastOf, Chains}
 
 -- entries that are all 0

@@ -6,7 +6,7 @@ use mathlib.Core.Bool.{Bool, true, false}
 use mathlib.Core.List.{List}
 use Prim.Native.Nat.{ℕ, suc, _%_, _≤_, _<_}
 use lib.ListN.{getD}
-use Rattle.held.specs.Held.{slotHas}
+use Rattle.slot_keys.specs.Has.{slotHas}
 
 -- a prime number of chains
 abbrev pub chainOf : (key : ℕ) → ℕ

@@ -10,7 +10,7 @@ use lib.Dec.{ltb}
 use borrow.Author.Tests.{lt-ltb, le-ltb}
 use Rattle.lists.specs.Keep.{keep, numbered}
 use Rattle.lists.proofs.Keep.{keep-append, length-numbered, getD-numbered, slice-split, slice-one, sets-append, sets-all}
-use Rattle.choose_slots.specs.Steps.{picked, gathered}
+use Rattle.choose_slots.specs.Steps.{picked, pickedAround}
 
 module _ (low : ℕ) (orders : List ℕ) where
   pub picked-split : (f i t : ℕ) → f ≤ i → i ≤ t → t ≤ length orders → picked low f t orders ≡ picked low f i orders ++ picked low i t orders
@@ -70,8 +70,8 @@ module _ {orders : List ℕ} {low f at : ℕ} {places slots : List ℕ} {n i : �
 -- ---- three runs that fill all places
 
 pub gathered-parts : (t b e : ℕ) (orders : List ℕ) →
-    length (gathered t b e orders) ≡ length (picked t 0 b orders) + (length (picked (t - 1) b e orders) + length (picked t e (length orders) orders))
-unfolding gathered
+    length (pickedAround t b e orders) ≡ length (picked t 0 b orders) + (length (picked (t - 1) b e orders) + length (picked t e (length orders) orders))
+unfolding pickedAround
 gathered-parts t b e orders = simp length-append
 
 pub three-runs : (places ps qs rs : List ℕ) {one two three : List ℕ} {a b : ℕ} → length (ps ++ (qs ++ rs)) ≡ length places → one ≡ sets places 0 ps → a ≡ 0 + length ps → two ≡ sets one a qs → b ≡ a + length qs → three ≡ sets two b rs → three ≡ ps ++ (qs ++ rs)

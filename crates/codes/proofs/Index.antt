@@ -1,7 +1,7 @@
 -- Where code i begins, counted without a product that could overflow: eight codes take w bytes. Small powers, and tests that say the same.
 use mathlib.Core.Path.{_≡_, refl, sym, ap, _∙_}
 use mathlib.Core.Bool.{Bool, true, false}
-use Prim.Native.Nat.{ℕ, _+_, _-_, _*_, _/_, _%_, _^_, _<_, _≤_}
+use Prim.Native.Nat.{ℕ, _+_, _*_, _/_, _%_, _^_, _<_, _≤_}
 use native.Mathlib.Nat.{div-add-mod, mul-le-mul-left, mod-lt, lt-of-lt-of-le, lt-of-not-le, not-le-of-lt}
 use native.Mathlib.Omega.{arith}
 use borrow.Author.Tests.{leb-true, leb-false, le-leb, lt-leb}
@@ -34,7 +34,3 @@ leb-same a b c d f g = go (leb a b) refl
     go : (t : Bool) → leb a b ≡ t → leb a b ≡ leb c d
     go true e = e ∙ sym (le-leb c d (f (leb-true a b e)))
     go false e = e ∙ sym (lt-leb c d (lt-of-not-le (λ h. not-le-of-lt (leb-false a b e) (g h))))
-
--- the bytes that a code takes from byte b on, against its bits
-pub leb-place : (w i bytes s b : ℕ) → s ≡ w * i % 8 → b ≡ w * i / 8 → b < bytes → leb ((s + w + 7) / 8) (bytes - b) ≡ leb (w * i + w) (8 * bytes)
-leb-place w i bytes s b es eb l = leb-same ((s + w + 7) / 8) (bytes - b) (w * i + w) (8 * bytes) (λ h. omega arith) (λ h. omega arith)

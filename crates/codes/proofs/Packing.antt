@@ -12,7 +12,7 @@ use Rattle.digits.proofs.Places.{div-parts, mod-mul-parts, div-pow-add, pow-mul
 use Rattle.digits.proofs.Below.{below-drop}
 use Rattle.digits.proofs.Number.{number-lt, number-take, number-drop, digit-number}
 use Rattle.digits.proofs.Digits.{length-digits, getD-digits, below-digits, number-digits, digits-parts, digits-number}
-use Rattle.codes.specs.Packing.{bytesPerVector, codeAt, unpacked, spare, spareWidth, packed, bit, blockBit}
+use Rattle.codes.specs.Packing.{bytesPerVector, codeAt, unpacked, spare, spareWidth, packed, bitOf, blockBit}
 
 -- the bytes hold the codes, and fewer than 8 bits more
 pub codes-in-bytes : (w p : ℕ) → (w * p ≤ 8 * bytesPerVector w p) × (8 * bytesPerVector w p < w * p + 8)
@@ -97,17 +97,17 @@ spare-over w codes block fit bytes size = spare-packed w codes _ fit ∙ mod-eq-
 
 -- ---- by single bits: bit j of code i is bit i * w + j of the block
 
-pub code-bit : (w : ℕ) (block : List ℕ) (i j : ℕ) → Below 256 block → j < w → bit (codeAt w block i) j ≡ blockBit block (i * w + j)
+pub code-bit : (w : ℕ) (block : List ℕ) (i j : ℕ) → Below 256 block → j < w → bitOf (codeAt w block i) j ≡ blockBit block (i * w + j)
 unfolding codeAt
 code-bit w block i j bytes h =
     let n = i * w + j in
     digit-bit w (number 256 block) i j h
-    ∙ ap (λ (z : ℕ). bit (number 256 block) z) {x = w * i + j} {y = 8 * (n / 8) + n % 8} (omega arith)
+    ∙ ap (λ (z : ℕ). bitOf (number 256 block) z) {x = w * i + j} {y = 8 * (n / 8) + n % 8} (omega arith)
     ∙ sym (digit-bit 8 (number 256 block) (n / 8) (n % 8) (omega arith))
     ∙ rw (pow-mul 2 8 (n / 8), digit-number 256 (n / 8) block bytes)
 
 pub packed-bit : (w : ℕ) (codes : List ℕ) (s i j : ℕ) → Below (2 ^ w) codes → i < length codes → j < w
-    → blockBit (packed w codes s) (i * w + j) ≡ bit (getD codes i 0) j
+    → blockBit (packed w codes s) (i * w + j) ≡ bitOf (getD codes i 0) j
 packed-bit w codes s i j fit l h =
     sym (code-bit w (packed w codes s) i j (below-packed w codes s) h)
     ∙ rw (← getD-unpacked w (length codes) (packed w codes s) i l, unpacked-packed w codes s fit)

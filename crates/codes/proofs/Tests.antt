@@ -2,15 +2,16 @@
 use mathlib.Core.Path.{_≡_, sym, _∙_}
 use mathlib.Core.List.{List}
 use mathlib.Core.Bool.{Bool, true, false, not, _&&_}
-use Prim.Native.Nat.{ℕ, _+_, _*_, _^_, _<_, _≤_}
+use Prim.Native.Nat.{ℕ, _^_, _<_, _≤_}
 use borrow.Author.Tests.{ltb-true, leb-true, eqb-true, lt-ltb, le-leb, eq-eqb, not-true, not-false}
 use lib.Dec.{ltb, leb, eqb}
 use lib.Pow.{pow-pos}
 use lib.ListN.{length}
-use Rattle.digits.specs.Digits.{Below, below}
-use Rattle.digits.proofs.Below.{both, below-true, below-yes}
+use Rattle.digits.specs.Digits.{Below, digitsBelow}
+use Rattle.lists.proofs.Tests.{both}
+use Rattle.digits.proofs.Below.{below-true, below-yes}
 use Rattle.codes.specs.Packing.{bytesPerVector, packed}
-use Rattle.codes.specs.Writing.{isWidth, atWidth, hasPlace, packable, written}
+use Rattle.codes.specs.Writing.{isWidth, atWidth, packable, repacked}
 
 -- ---- a width
 
@@ -39,24 +40,6 @@ no-width {r} w e h = sym e ∙ not-true r h
 pub a-width : {r : Bool} (w : ℕ) → r ≡ isWidth w → not r ≡ false → Width w
 a-width {r} w e h = width-of w (sym e ∙ not-false r h)
 
--- ---- a place for one code
-
-pub record Place (w bytes i code : ℕ) : Type 0 where
-  pub width : Width w
-  pub fits : code < 2 ^ w
-  pub inside : w * i + w ≤ 8 * bytes
-
-pub has-place : {w bytes i code : ℕ} → Place w bytes i code → hasPlace w bytes i code ≡ true
-unfolding hasPlace
-has-place {w} {bytes} {i} {code} h = rw (is-width (h .width), lt-ltb code (2 ^ w) (h .fits)) (le-leb (w * i + w) (8 * bytes) (h .inside))
-
-pub place-of : (w bytes i code : ℕ) → hasPlace w bytes i code ≡ true → Place w bytes i code
-unfolding hasPlace
-place-of w bytes i code h =
-    let b = both (isWidth w) (ltb code (2 ^ w) && leb (w * i + w) (8 * bytes)) h in
-    let d = both (ltb code (2 ^ w)) (leb (w * i + w) (8 * bytes)) (b .1) in
-    record { width = width-of w (b .0); fits = ltb-true code (2 ^ w) (d .0); inside = leb-true (w * i + w) (8 * bytes) (d .1) }
-
 -- ---- the codes of a vector
 
 pub record Packable (w : ℕ) (codes : List ℕ) (bytes : ℕ) : Type 0 where
@@ -67,8 +50,8 @@ pub record Packable (w : ℕ) (codes : List ℕ) (bytes : ℕ) : Type 0 where
 pub packable-of : (w : ℕ) (codes : List ℕ) (bytes : ℕ) → packable w codes bytes ≡ true → Packable w codes bytes
 unfolding packable
 packable-of w codes bytes h =
-    let b = both (isWidth w) (eqb bytes (bytesPerVector w (length codes)) && below (2 ^ w) codes) h in
-    let d = both (eqb bytes (bytesPerVector w (length codes))) (below (2 ^ w) codes) (b .1) in
+    let b = both (isWidth w) (eqb bytes (bytesPerVector w (length codes)) && digitsBelow (2 ^ w) codes) h in
+    let d = both (eqb bytes (bytesPerVector w (length codes))) (digitsBelow (2 ^ w) codes) (b .1) in
     record { width = width-of w (b .0); size = eqb-true bytes (bytesPerVector w (length codes)) (d .0); fit = below-true (2 ^ w) (pow-pos w) codes (d .1) }
 
 pub packable-yes : (w : ℕ) (codes : List ℕ) (bytes : ℕ) → Packable w codes bytes → packable w codes bytes ≡ true
@@ -77,11 +60,11 @@ packable-yes w codes bytes h =
     rw (is-width (h .width), eq-eqb bytes (bytesPerVector w (length codes)) (h .size)) (below-yes (2 ^ w) codes (λ i l. h .fit i))
 
 pub written-yes : {w : ℕ} {codes : List ℕ} (spares : ℕ) (block : List ℕ) → Packable w codes (length block)
-    → written w codes spares block ≡ packed w codes spares
-unfolding written
+    → repacked w codes spares block ≡ packed w codes spares
+unfolding repacked
 written-yes {w} {codes} spares block h = rw (packable-yes w codes (length block) h)
 
 pub written-no : (w : ℕ) (codes : List ℕ) (spares : ℕ) (block : List ℕ) → packable w codes (length block) ≡ false
-    → written w codes spares block ≡ block
-unfolding written
+    → repacked w codes spares block ≡ block
+unfolding repacked
 written-no w codes spares block h = rw h

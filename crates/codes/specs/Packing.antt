@@ -33,8 +33,8 @@ unfoldable pub packed : ℕ → List ℕ → ℕ → List ℕ
 packed w codes spares = digits 256 (bytesPerVector w (length codes)) (number (2 ^ w) codes + 2 ^ (w * length codes) * spares)
 
 -- The same layout by single bits, for the law `code-bit`: bit n of a number, and bit n of a block, which is bit n modulo 8 of byte n / 8.
-abbrev pub bit : ℕ → ℕ → ℕ
-bit v n = v / 2 ^ n % 2
+abbrev pub bitOf : ℕ → ℕ → ℕ
+bitOf v n = v / 2 ^ n % 2
 
 abbrev pub blockBit : List ℕ → ℕ → ℕ
-blockBit block n = bit (getD block (n / 8) 0) (n % 8)
+blockBit block n = bitOf (getD block (n / 8) 0) (n % 8)

@@ -6,20 +6,19 @@ use Prim.Native.Nat.{ℕ, _/_, _≤_}
 use native.Mathlib.Omega.{arith}
 use lib.ListN.{length, getD}
 use lib.Dec.{leb}
-use Rattle.lists.specs.Lists.{tab, over}
-use Rattle.lists.specs.Keep.{keep, count}
+use Rattle.lists.specs.Lists.{tab, over, joined}
+use Rattle.lists.specs.Keep.{keep, count, any}
 use Rattle.lists.proofs.Laws.{length-tab}
 use Rattle.lists.proofs.Keep.{each-keep, each-kept, count-map, count-all, length-keep}
 use Rattle.lists.proofs.Front.{getD-over-map, tab-map, each-map, map-each}
 use Rattle.encode.specs.declared.Header.{Header}
 use Rattle.encode.specs.Header.{blockSize}
 use Rattle.codes.specs.Stage.{Stage}
-use Rattle.codes.specs.Writing.{atWidth}
 use Rattle.index.specs.declared.Index.{Index}
 use Rattle.index.specs.Arrays.{Arrays}
-use Rattle.index.specs.State.{Slot, live, headerOf, capacity, stageAt, slotAt, stateOf, recordOf, aliveOf, hasKey, keyWord, position, joined, seconds, scalesOf, blocksOf, overlay}
+use Rattle.index.specs.State.{Slot, live, headerOf, capacity, stageAt, slotAt, stateOf, recordOf, aliveOf, hasKey, keyWord, position, seconds, scalesOf, blocksOf, overlay, withCounts}
 use Rattle.index.specs.Fit.{fit}
-use Rattle.index.specs.Step.{any, rising, compacted, withSlots, step, compact, done}
+use Rattle.index.specs.Step.{rising, compacted, withSlots, step, compact, done}
 use Rattle.index.specs.Call.{call}
 use Rattle.index.specs.Answers.{result}
 use Rattle.index.specs.Sound.{Shaped, AllShaped}
@@ -27,7 +26,7 @@ use Rattle.index.proofs.Fits.{slots-shaped}
 use Rattle.index.proofs.Calls.{call-fits}
 use Rattle.index.proofs.Overlay.{secondOf, plain-seconds, residual-seconds}
 use Rattle.fit.specs.Fits.{Fits, Enough}
-use Rattle.fit.proofs.Rooms.{enough, in-width}
+use Rattle.fit.proofs.Rooms.{enough}
 use Rattle.fit.proofs.Meaning.{meaning}
 use Rattle.held_order.specs.Restored.{risingPosition}
 use Rattle.compact.specs.Gathered.{liveSlots, gathered, gatheredBlocks, Downward, withKept}
@@ -175,9 +174,6 @@ module _ (x : Index) (a : Arrays) (e : fit x a ≡ true) where
   pub places-room : (x .n ≤ length (a .held)) × (x .n ≤ 65536)
   places-room = (room .held, room .few)
 
-  pub whole-size : (size : ℕ) → size ≡ atWidth (x .bits) (blockSize (headerOf x)) → size ≡ blockSize (headerOf x)
-  whole-size size f = f ∙ in-width (x .bits) (blockSize (headerOf x)) (fits .fields .bits) (fits .fields .bits-high)
-
   module _ (slots : List ℕ) (n : ℕ) (listed : slots ≡ over (liveSlots (a .alive) (x .n)) (a .held)) (many : n ≡ length (liveSlots (a .alive) (x .n))) where
     down : (space : ℕ) → x .n ≤ space → Downward slots n space
     down space l = rw (listed, many) (numbers-down (a .alive) (x .n) (a .held) (room .held) space l)
@@ -251,16 +247,7 @@ module _ (x : Index) (a : Arrays) where
   pub compacted-record : withKept x number ≡ recordOf (withSlots (stateOf x a) (x .cascade && not (any (λ s. not (live s)) slots)) (compacted slots))
   unfolding withKept recordOf stateOf compacted
   compacted-record =
-      λ j. record {
-        dim = x .dim;
-        «working_dim» = x .«working_dim»;
-        seed = x .seed;
-        bits = x .bits;
-        residual = x .residual;
-        n = sym (rising-length (λ k. 0) (keep live slots) ∙ kept-length (headerOf x) a (x .n)) j;
-        live = sym all-live j;
-        cascade = x .cascade && sym cascade-kept j;
-      }
+      λ j. withCounts x (sym (rising-length (λ k. 0) (keep live slots) ∙ kept-length (headerOf x) a (x .n)) j) (sym all-live j) (x .cascade && sym cascade-kept j)
 
   -- ---- the call
 

@@ -1,7 +1,7 @@
 -- Entries and blocks that move down: one more turn of each loop.
 use mathlib.Core.Path.{_≡_, refl, sym, ap, _∙_}
 use mathlib.Core.List.{List, [], _∷_, _++_, append-nil}
-use Prim.Native.Nat.{ℕ, zero, suc, _+_, _-_, _*_, _/_, _≤_, _<_}
+use Prim.Native.Nat.{ℕ, suc, _+_, _-_, _*_, _/_, _≤_, _<_}
 use native.Mathlib.Nat.{suc-mul, mul-le-mul-right, div-le-self, div-mul-le-self}
 use native.Mathlib.Numerals.{add-one}
 use native.Mathlib.Omega.{arith}
@@ -9,15 +9,13 @@ use lib.ListN.{length, getD, set, take, drop, length-append, length-drop, length
 use lib.Seq.{paste, paste-zero, paste-suc, drop-paste, length-take-le, getD-drop, drop-append-add, drop-drop}
 use lib.Dec.{ltb}
 use borrow.Author.Tests.{lt-ltb, le-ltb, le-leb}
-use Rattle.lists.specs.Lists.{tab, over, splice}
+use Rattle.lists.specs.Lists.{tab, over, splice, joined, below}
 use Rattle.lists.specs.Keep.{keep, count}
 use Rattle.lists.proofs.Laws.{length-tab, length-over, over-more}
 use Rattle.lists.proofs.Keep.{keep-append, length-keep, count-length}
 use Rattle.lists.proofs.Front.{getD-rest, over-append, splice-one, length-splice, each-tab}
 use Rattle.codes.specs.Slots.{blockAt}
-use Rattle.index.specs.State.{joined}
 use Rattle.index.proofs.Blocks.{joined-append, length-joined, length-block}
-use Rattle.held.specs.Held.{below}
 use Rattle.compact.specs.Gathered.{liveSlots, gathered, gatheredBlocks, Downward}
 
 -- ---- entries

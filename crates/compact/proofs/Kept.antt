@@ -8,18 +8,17 @@ use native.Mathlib.Decide.{decLt}
 use lib.ListN.{length, getD, length-map, length-append, List·getD-append}
 use lib.Seq.{getD-at}
 use lib.Dec.{ltb, leb}
-use borrow.Author.Tests.{lt-ltb, ltb-true, le-leb, lt-leb}
-use Rattle.lists.specs.Lists.{tab, over}
-use Rattle.lists.specs.Keep.{bit, keep, count, Each}
+use borrow.Author.Tests.{ltb-true, le-leb, lt-leb}
+use Rattle.lists.specs.Lists.{tab, over, joined, below}
+use Rattle.lists.specs.Keep.{bit, keep, count, Each, any}
 use Rattle.lists.proofs.Laws.{length-tab, length-over, getD-default}
 use Rattle.lists.proofs.Keep.{keep-append, keep-map, length-keep, count-length, each-kept}
 use Rattle.lists.proofs.Front.{getD-front, map-tab, tab-map}
 use Rattle.encode.specs.declared.Header.{Header}
 use Rattle.codes.specs.Slots.{blockAt}
 use Rattle.index.specs.Arrays.{Arrays}
-use Rattle.index.specs.State.{dead, keyed, Slot, isLive, live, markOf, slotAt, aliveOf, hasKey, keyWord, joined}
-use Rattle.index.specs.Step.{any}
-use Rattle.held.specs.Held.{below}
+use Rattle.index.specs.State.{keyed, Slot, live, markOf, slotAt, aliveOf, hasKey, keyWord}
+use Rattle.index.proofs.Marks.{mark-live}
 use Rattle.compact.specs.Gathered.{liveSlots, gathered, gatheredBlocks, Downward}
 use Rattle.compact.proofs.Gathering.{few-live}
 
@@ -85,11 +84,6 @@ module _ (alive : List ℕ) (n : ℕ) (old : List ℕ) (space : n ≤ length old
   blocks-kept size xs = ap (λ ys. over (joined ys) xs) (listed-map (λ i. blockAt size i xs))
 
 -- ---- the slots themselves
-
-mark-live : (l : ℕ) (on : Bool) (k p : ℕ) → isLive (markOf l on k p) ≡ ltb 0 l
-mark-live zero on k p = refl
-mark-live (suc l) true k p = sym (lt-ltb 0 (suc l) (omega arith))
-mark-live (suc l) false k p = sym (lt-ltb 0 (suc l) (omega arith))
 
 mark-word : (l : ℕ) (on : Bool) (k p : ℕ) → keyWord (markOf l on k p) ≡ k
 mark-word zero on k p = refl

@@ -8,24 +8,25 @@ use native.Mathlib.Numerals.{add-one}
 use native.Mathlib.Omega.{arith}
 use lib.ListN.{length, getD, take, length-map}
 use lib.Dec.{eqb}
-use Rattle.lists.specs.Lists.{tab}
+use Rattle.lists.specs.Lists.{tab, below}
 use Rattle.lists.specs.Keep.{bit, count}
 use Rattle.lists.proofs.Keep.{count-append, count-next}
 use Rattle.lists.proofs.Front.{tab-map}
 use Rattle.encode.specs.Coded.{Code}
-use Rattle.index.specs.State.{Mark, dead, unkeyed, keyed, Slot, hasKey, keyWord, position}
+use Rattle.index.specs.State.{Mark, dead, unkeyed, keyed, Slot, hasKey, keyWord, position, newSlot, withMark}
 use Rattle.index.specs.Step.{holds, oneMore, rising}
-use Rattle.held.specs.Held.{below, slotHas, heldCount}
+use Rattle.slot_keys.specs.Has.{slotHas}
+use Rattle.held.specs.Held.{heldCount}
 use Rattle.held_order.specs.Restored.{risingPosition}
 
 -- what doesn't look at positions stays
-pub rising-map : {B : Type 0} (g : Slot → B) → ((k p q : ℕ) (c : Code) → g (record { mark = keyed k p; code = c }) ≡ g (record { mark = keyed k q; code = c })) →
+pub rising-map : {B : Type 0} (g : Slot → B) → ((k p q : ℕ) (c : Code) → g (newSlot (keyed k p) c) ≡ g (newSlot (keyed k q) c)) →
     (seen : ℕ → ℕ) (ss : List Slot) → map g (rising seen ss) ≡ map g ss
 unfolding rising
 rising-map g same seen [] = refl
 rising-map g same seen (s ∷ ss) = go (s .mark) (λ next. rising-map g same next ss)
   where
-    go : (m : Mark) → ((next : ℕ → ℕ) → map g (rising next ss) ≡ map g ss) → map g (rising seen (record { mark = m; code = s .code } ∷ ss)) ≡ g (record { mark = m; code = s .code }) ∷ map g ss
+    go : (m : Mark) → ((next : ℕ → ℕ) → map g (rising next ss) ≡ map g ss) → map g (rising seen (withMark s m ∷ ss)) ≡ g (withMark s m) ∷ map g ss
     go (dead u) ih = rw (ih seen)
     go (unkeyed u) ih = rw (ih seen)
     go (keyed k p) ih = rw (ih (oneMore k seen), same k (seen k) p (s .code))
@@ -44,7 +45,7 @@ unfolding rising
 rising-at seen [] i d l = absurd (omega arith)
 rising-at seen (s ∷ ss) zero d l = go (s .mark)
   where
-    go : (m : Mark) → position (getD (rising seen (record { mark = m; code = s .code } ∷ ss)) 0 d .mark) ≡ cond (hasKey m) (seen (keyWord m) + 0) 0
+    go : (m : Mark) → position (getD (rising seen (withMark s m ∷ ss)) 0 d .mark) ≡ cond (hasKey m) (seen (keyWord m) + 0) 0
     go (dead u) = refl
     go (unkeyed u) = refl
     go (keyed k p) = sym (add-zero (seen k))
@@ -64,7 +65,7 @@ rising-at seen (s ∷ ss) (suc i) d l = go (s .mark) (λ next. rising-at next ss
     more j false = omega arith
 
     go : (m : Mark) → ((next : ℕ → ℕ) → position (getD (rising next ss) i d .mark) ≡ cond on (next k + n) 0) →
-        position (getD (rising seen (record { mark = m; code = s .code } ∷ ss)) (suc i) d .mark) ≡ cond on (seen k + (bit (holds k m) + n)) 0
+        position (getD (rising seen (withMark s m ∷ ss)) (suc i) d .mark) ≡ cond on (seen k + (bit (holds k m) + n)) 0
     go (dead u) ih = ih seen ∙ ap (λ (p : ℕ). cond on (seen k + p) 0) (sym (zero-add n))
     go (unkeyed u) ih = ih seen ∙ ap (λ (p : ℕ). cond on (seen k + p) 0) (sym (zero-add n))
     go (keyed j p) ih = ih (oneMore j seen) ∙ ap (λ (q : ℕ). cond on q 0) (more (seen k) (eqb j k))

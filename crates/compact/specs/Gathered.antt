@@ -5,12 +5,11 @@ use mathlib.Core.List.{List}
 use Prim.Native.Nat.{ℕ, _≤_, _<_}
 use lib.ListN.{length, getD}
 use lib.Dec.{leb, ltb}
-use Rattle.lists.specs.Lists.{tab, over}
+use Rattle.lists.specs.Lists.{tab, over, joined, below}
 use Rattle.lists.specs.Keep.{keep}
 use Rattle.codes.specs.Slots.{blockAt}
 use Rattle.index.specs.declared.Index.{Index}
-use Rattle.index.specs.State.{joined}
-use Rattle.held.specs.Held.{below}
+use Rattle.index.specs.State.{withCounts}
 
 -- the numbers of the live slots among the first n
 unfoldable pub liveSlots : (alive : List ℕ) → (n : ℕ) → List ℕ
@@ -33,14 +32,4 @@ module _ (slots : List ℕ) (n : ℕ) where
 
 -- 01: the slots in use are those kept, all live; the cascade ends where a dead slot was met.
 unfoldable pub withKept : Index → (kept : ℕ) → Index
-withKept x kept =
-    record {
-      dim = x .dim;
-      «working_dim» = x .«working_dim»;
-      seed = x .seed;
-      bits = x .bits;
-      residual = x .residual;
-      n = kept;
-      live = kept;
-      cascade = x .cascade && leb (x .n) kept;
-    }
+withKept x kept = withCounts x kept kept (x .cascade && leb (x .n) kept)

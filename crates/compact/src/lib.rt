@@ -2,14 +2,11 @@
 //
 // Held order is written anew at the end, so until then its first places keep the numbers of the slots that stay: the call needs no list of its own.
 ghost use mathlib.Core.Path.{_≡_};
-ghost use mathlib.Core.Bool.{true, false, cond};
+ghost use mathlib.Core.Bool.{false, cond};
 ghost use Prim.Native.Nat.{_+_, _*_, _/_, _≤_, _<_};
 ghost use lib.ListN.{length, take, drop};
 ghost use Rattle.lists.specs.Lists.{tab, over, splice};
-ghost use Rattle.codes.specs.Writing.{atWidth};
-ghost use Rattle.encode.specs.Header.{blockSize};
 ghost use Rattle.index.specs.Arrays.{lent};
-ghost use Rattle.index.specs.State.{headerOf};
 ghost use Rattle.index.specs.Step as Step;
 ghost use Rattle.index.specs.Call.{call};
 ghost use Rattle.index.specs.Answers.{made};
@@ -29,7 +26,7 @@ fn live_slots(alive: &[u8], n: usize, slots: &mut [u32]) -> usize
     let mut many: usize = 0;
     let mut i: usize = 0;
     while i < n {
-        if 0 < fit::live_mark(alive, i) {
+        if 0 < marks::live_mark(alive, i) {
             slots[many] = i as u32;
             many += 1;
         }
@@ -112,18 +109,6 @@ fn gather_stage(codes: &mut [u8], scales: &mut [u32], size: usize, slots: &[u32]
 
 // ---- keys and marks
 
-// Marks the first n slots as live.
-fn mark_live(alive: &mut [u8], n: usize)
-    requires { ⌜ n ≤ length (now alive) ⌝ }
-    ensures { λ _. ⌜ now (alive .exit) ≡ over (tab (λ _. 1) n) (now (alive .entry)) ⌝ }
-{
-    let mut i = 0;
-    while i < n {
-        fit::set_live_mark(alive, i, true);
-        i += 1;
-    }
-}
-
 // The keys of the slots that `held` lists move down, held order rises in their stead, and all slots that are kept are live.
 fn gather_marks(keys: &mut [u64], keyed: &mut [bool], held: &mut [u32], alive: &mut [u8], n: usize)
     requires { ⌜ Downward (now held) n (length (now keys)) × Downward (now held) n (length (now keyed)) ⌝ }
@@ -136,7 +121,7 @@ fn gather_marks(keys: &mut [u64], keyed: &mut [bool], held: &mut [u32], alive: &
     gather_u64(keys, held, n);
     gather_bool(keyed, held, n);
     held_order::restore_order(keys, keyed, held, n);
-    mark_live(alive, n);
+    marks::mark_live(alive, n);
 }
 
 // ---- the call
@@ -149,13 +134,6 @@ fn second_stages(residual: bool, n: usize) -> usize
         return n;
     }
     0
-}
-
-// How many bytes a slot has of each stage.
-fn block_size(index: Index) -> usize
-    ensures { λ r. ⌜ r ≡ atWidth (index .bits) (blockSize (headerOf index)) ⌝ }
-{
-    codes::bytes_per_vector(padding::padded_dim(index.working_dim), index.bits)
 }
 
 // The record once so many slots are kept: the cascade ends where a dead slot was met.
@@ -183,7 +161,10 @@ pub fn compact(
     codes2: &mut [u8],
     scales2: &mut [u32],
 ) -> Made
-    ensures { λ r. ⌜ made index r (lent (codes .exit) (scales .exit) (keys .exit) (keyed .exit) (held .exit) (alive .exit) (codes2 .exit) (scales2 .exit)) ≡ call index (lent (codes .entry) (scales .entry) (keys .entry) (keyed .entry) (held .entry) (alive .entry) (codes2 .entry) (scales2 .entry)) Step.compact ⌝ }
+    ensures { λ r. ⌜
+        made index r (lent (codes .exit) (scales .exit) (keys .exit) (keyed .exit) (held .exit) (alive .exit) (codes2 .exit) (scales2 .exit))
+        ≡ call index (lent (codes .entry) (scales .entry) (keys .entry) (keyed .entry) (held .entry) (alive .entry) (codes2 .entry) (scales2 .entry))
+        Step.compact ⌝ }
 {
     if fit::fits(
         index,
@@ -197,7 +178,7 @@ pub fn compact(
         scales2,
     ) {
         let n = live_slots(alive, index.n, held);
-        let size = block_size(index);
+        let size = layout::block_size(index);
         gather_stage(codes, scales, size, held, n);
         gather_stage(
             codes2,

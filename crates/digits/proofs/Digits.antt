@@ -2,8 +2,7 @@
 use mathlib.Core.Path.{_≡_, refl, sym, ap, _∙_}
 use mathlib.Core.List.{List, [], _∷_, _++_}
 use Prim.Native.Nat.{ℕ, zero, suc, _+_, _-_, _*_, _/_, _%_, _^_, _<_, min, suc-le-suc}
-use native.Mathlib.Nat.{zero-add, suc-add, sub-zero, zero-sub, suc-sub-suc, zero-min, min-zero, suc-min-suc}
-use native.Mathlib.Nat.{pow-zero, pow-suc, pow-succ', mod-one, mod-lt, mod-eq-of-lt, one-le-pow}
+use native.Mathlib.Nat.{zero-add, suc-add, sub-zero, zero-sub, suc-sub-suc, zero-min, min-zero, suc-min-suc, pow-zero, pow-suc, pow-succ', mod-one, mod-lt, mod-eq-of-lt, one-le-pow}
 use native.Mathlib.Omega.{arith}
 use lib.Arith.{mod-mul}
 use lib.ListN.{length, getD, take, drop}

@@ -3,4 +3,3 @@ pub mod Places
 pub mod Below
 pub mod Number
 pub mod Digits
-pub mod Replaced

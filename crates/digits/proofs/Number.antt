@@ -1,13 +1,13 @@
 -- The number of a list of digits: joined lists, parts, one digit, two digits.
 use mathlib.Core.Path.{_≡_, sym, ap, _∙_}
 use mathlib.Core.List.{List, [], _∷_, _++_}
-use Prim.Native.Nat.{ℕ, zero, suc, _+_, _*_, _/_, _%_, _^_, _<_, _≤_, zero-le, suc-le-suc}
-use native.Mathlib.Nat.{zero-add, add-zero, one-mul, pow-zero, pow-suc, pow-succ', zero-div, zero-mod, mod-one, one-le-pow, lt-suc-self, ne-of-gt, mod-add-div}
+use Prim.Native.Nat.{ℕ, zero, suc, _+_, _*_, _/_, _%_, _^_, _<_}
+use native.Mathlib.Nat.{zero-add, add-zero, one-mul, pow-zero, pow-suc, pow-succ', zero-div, zero-mod, mod-one, one-le-pow}
 use native.Mathlib.Numerals.{add-one}
 use native.Mathlib.Omega.{arith}
 use lib.Arith.{digits-lt, mod-mul}
-use lib.ListN.{length, getD, take, drop, set, length-set}
-use lib.Seq.{drop-cons, getD-drop, getD-set-other}
+use lib.ListN.{length, getD, take, drop}
+use lib.Seq.{drop-cons, getD-drop}
 use Rattle.digits.specs.Digits.{number, Below}
 use Rattle.digits.proofs.Places.{div-parts, mod-parts, mod-mul-parts, div-pow-zero, div-first, div-last}
 use Rattle.digits.proofs.Below.{base-pos, below-drop}
@@ -51,26 +51,3 @@ module _ (B : ℕ) where
   window-number i ds h =
       let pos = base-pos B ds h in
       rw (mod-mul (number B ds / B ^ i) pos pos, div-last B (number B ds) i, digit-number i ds h, digit-number (suc i) ds h, add-one i) (omega arith)
-
-  -- digit i replaced; where there is no digit i, nothing can stand there but 0
-  pub number-set : (i d : ℕ) (ds : List ℕ) → (length ds ≤ i → d ≡ 0) → number B (set ds i d) + B ^ i * getD ds i 0 ≡ number B ds + B ^ i * d
-  number-set i d [] h = ap (λ (z : ℕ). 0 + B ^ i * z) (sym (h zero-le))
-  number-set zero d (e ∷ ds) h = rw (pow-zero B) (omega arith)
-  number-set (suc i) d (e ∷ ds) h = rw (pow-succ' B i) (omega (arith, ap (λ (z : ℕ). B * z) (number-set i d ds (λ l. h (suc-le-suc l)))))
-
-  set-next : (i x y : ℕ) (ds : List ℕ) → (length ds ≤ suc i → y ≡ 0)
-      → number B (set (set ds i x) (suc i) y) + B ^ suc i * getD ds (suc i) 0 ≡ number B (set ds i x) + B ^ suc i * y
-  set-next i x y ds h =
-      rw (← getD-set-other ds i (suc i) x 0 (ne-of-gt (lt-suc-self i))) (number-set (suc i) y (set ds i x) (λ l. h (rw (length-set ds i x) at l)))
-
-  -- digit i and the next one replaced by those of x
-  pub number-set-two : (i x : ℕ) (ds : List ℕ) → i < length ds → (length ds ≤ i + 1 → x / B ≡ 0)
-      → number B (set (set ds i (x % B)) (i + 1) (x / B)) + B ^ i * (getD ds i 0 + B * getD ds (i + 1) 0) ≡ number B ds + B ^ i * x
-  number-set-two i x ds l h =
-      rw (add-one i)
-      (omega (
-        arith,
-        number-set i (x % B) ds (λ (g : length ds ≤ i). absurd (omega arith)),
-        rw (pow-succ' B i) at (set-next i (x % B) (x / B) ds (rw (add-one i) at h)),
-        ap (λ (z : ℕ). B ^ i * z) (mod-add-div x B),
-      ))

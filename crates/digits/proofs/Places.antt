@@ -1,8 +1,7 @@
 -- Numbers in two parts, x below p and y times p, and powers as places: division by one is a shift, and a digit is what is cut off after it.
 use mathlib.Core.Path.{_≡_, ap, _∙_}
 use Prim.Native.Nat.{ℕ, zero, suc, _+_, _-_, _*_, _/_, _%_, _^_, _<_, _≤_, zero-le}
-use native.Mathlib.Nat.{mul-comm, mul-assoc, mul-zero, mul-suc, pow-zero, pow-suc, pow-succ', div-one}
-use native.Mathlib.Nat.{mod-mod-of-dvd, dvd-mul-right, mod-lt, lt-of-le-of-lt, mul-pos, div-div-eq-div-mul}
+use native.Mathlib.Nat.{mul-comm, mul-assoc, mul-zero, mul-suc, pow-zero, pow-suc, pow-succ', div-one, mod-mod-of-dvd, dvd-mul-right, mod-lt, lt-of-le-of-lt, mul-pos, div-div-eq-div-mul}
 use native.Mathlib.Omega.{arith}
 use lib.Arith.{digits-div, digits-mod, mod-mul}
 use lib.Pow.{pow-add, pow-pos}

@@ -20,10 +20,6 @@ abbrev pub Below : ℕ → List ℕ → Type 0
 Below B ds = (i : ℕ) → getD ds i 0 < B
 
 -- The same as a test.
-abbrev pub below : ℕ → List ℕ → Bool
-below B [] = true
-below B (d ∷ ds) = ltb d B && below B ds
-
--- v with the digit d, to the base B, at the place of value p: what stands below that place and above it stays.
-unfoldable pub replaced : ℕ → ℕ → ℕ → ℕ → ℕ
-replaced p B v d = v % p + p * (d + B * (v / (p * B)))
+abbrev pub digitsBelow : ℕ → List ℕ → Bool
+digitsBelow B [] = true
+digitsBelow B (d ∷ ds) = ltb d B && digitsBelow B ds

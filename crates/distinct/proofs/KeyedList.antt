@@ -11,15 +11,16 @@ use lib.Seq.{ext-getD}
 use lib.Dec.{eqb}
 use lib.Ieee.{Float, nan}
 use borrow.Author.Tests.{eqb-true, eq-eqb, ne-eqb}
-use Rattle.lists.specs.Lists.{tab, zipWith}
-use Rattle.lists.specs.Keep.{bit}
+use Rattle.lists.specs.Lists.{tab, zipWith, below}
+use Rattle.lists.specs.Keep.{bit, any}
 use Rattle.lists.proofs.Laws.{getD-default, length-tab, getD-tab}
 use Rattle.lists.proofs.Entries.{getD-zip}
 use Rattle.lists.proofs.Keep.{count-append}
-use Rattle.index.specs.Step.{Hit, byKey, any}
-use Rattle.held.specs.Held.{below, slotHas, heldCount}
+use Rattle.index.specs.Step.{Hit, byKey}
+use Rattle.slot_keys.specs.Has.{slotHas}
+use Rattle.held.specs.Held.{heldCount}
 use Rattle.distinct.specs.Distinct.{hitAt, keyedList}
-use Rattle.distinct.specs.Places.{keysAt, keyedAt, isFirst, placeHit, keyedTo}
+use Rattle.distinct.specs.Places.{keysListed, keyedAt, isFirst, placeHit, keyedTo}
 
 -- ---- a list followed by another
 
@@ -95,8 +96,8 @@ module _ {A B C : Type 0} (f : A → B → C) where
       getD-zip f xs ys i a b c (omega (arith, min-le-left (length xs) (length ys))) (omega (arith, min-le-right (length xs) (length ys)))
       ∙ sym (getD-tab (λ j. f (getD xs j a) (getD ys j b)) (min (length xs) (length ys)) i c k))
 
-pub word-at : (keys slots : List ℕ) (p : ℕ) → p < length slots → getD (keysAt keys slots) p 0 ≡ getD keys (getD slots p 0) 0
-unfolding keysAt
+pub word-at : (keys slots : List ℕ) (p : ℕ) → p < length slots → getD (keysListed keys slots) p 0 ≡ getD keys (getD slots p 0) 0
+unfolding keysListed
 word-at keys slots p here = map-at (λ i. getD keys i 0) slots p here 0 0
 
 pub keyed-at : (keyed : List Bool) (slots : List ℕ) (p : ℕ) → p < length slots → getD (keyedAt keyed slots) p false ≡ getD keyed (getD slots p 0) false
@@ -104,7 +105,7 @@ unfolding keyedAt
 keyed-at keyed slots p here = map-at (λ i. getD keyed i false) slots p here 0 false
 
 pub has-at : (keys : List ℕ) (keyed : List Bool) (slots : List ℕ) (key p : ℕ) → p < length slots →
-    slotHas (keysAt keys slots) (keyedAt keyed slots) key p ≡ slotHas keys keyed key (getD slots p 0)
+    slotHas (keysListed keys slots) (keyedAt keyed slots) key p ≡ slotHas keys keyed key (getD slots p 0)
 has-at keys keyed slots key p here = rw (word-at keys slots p here, keyed-at keyed slots p here)
 
 -- what a place adds to the list
@@ -113,7 +114,7 @@ added b k x = cond b ((k, x) ∷ []) []
 
 module _ (keys : List ℕ) (keyed : List Bool) (slots : List ℕ) (scores : List Float) where
   abbrev words : List ℕ
-  words = keysAt keys slots
+  words = keysListed keys slots
 
   abbrev on : List Bool
   on = keyedAt keyed slots

@@ -13,7 +13,7 @@ use borrow.Author.Tests.{ne-eqb}
 use Rattle.held.specs.Held.{heldCount}
 use Rattle.chains.specs.Chains.{LastOf, Chains}
 use Rattle.chains.proofs.Chains.{count-first, count-after, chains-none}
-use Rattle.distinct.specs.Places.{isFirst, Marked}
+use Rattle.distinct.specs.Places.{isFirst, MarksFirsts}
 
 module _ (words : List ℕ) (on : List Bool) where
   -- a keyed place is the first of its key where no lower place with the key is found
@@ -32,7 +32,7 @@ module _ (words : List ℕ) (on : List Bool) where
   unfolding isFirst
   first-unkeyed p off = rw off
 
-  marked-more : (firsts : List Bool) (i : ℕ) → i < length firsts → Marked words on firsts i → Marked words on (set firsts i (isFirst words on i)) (suc i)
+  marked-more : (firsts : List Bool) (i : ℕ) → i < length firsts → MarksFirsts words on firsts i → MarksFirsts words on (set firsts i (isFirst words on i)) (suc i)
   marked-more firsts i l marked j k = go (ℕ-discrete j i)
     where
       go : Dec (j ≡ i) → getD (set firsts i (isFirst words on i)) j false ≡ isFirst words on j
@@ -43,7 +43,7 @@ module _ (words : List ℕ) (on : List Bool) where
 pub record Marking (words : List ℕ) (on : List Bool) (n : ℕ) (heads₀ before₀ : List ℕ) (firsts₀ : List Bool)
     (heads before : List ℕ) (firsts : List Bool) (i : ℕ) : Type 0 where
   pub few : i ≤ n
-  pub marked : Marked words on firsts i
+  pub marked : MarksFirsts words on firsts i
   pub chains : Chains words on heads before i
   pub heads-same : length heads ≡ length heads₀
   pub before-same : length before ≡ length before₀
@@ -76,5 +76,5 @@ module _ (words : List ℕ) (on : List Bool) (n : ℕ) (heads₀ before₀ : Lis
       }
 
   pub marking-all : {heads before : List ℕ} {firsts : List Bool} {i : ℕ} →
-      Marking words on n heads₀ before₀ firsts₀ heads before firsts i → n ≤ i → Marked words on firsts n
+      Marking words on n heads₀ before₀ firsts₀ heads before firsts i → n ≤ i → MarksFirsts words on firsts n
   marking-all {i = i} m l = let e : i ≡ n = omega (arith, m .few) in rw e at (m .marked)

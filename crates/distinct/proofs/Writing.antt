@@ -10,15 +10,14 @@ use lib.ListN.{length, getD, set, length-append, length-map}
 use lib.Dec.{leb}
 use lib.Ieee.{Float, nan}
 use borrow.Author.Tests.{le-leb, lt-leb}
-use Rattle.lists.specs.Lists.{over}
+use Rattle.lists.specs.Lists.{over, below}
 use Rattle.lists.specs.Keep.{bit, keep}
 use Rattle.lists.proofs.Laws.{length-tab, length-over}
 use Rattle.lists.proofs.Keep.{keep-append, length-keep, count-length}
 use Rattle.lists.proofs.Front.{over-append, splice-one}
 use Rattle.index.specs.Step.{byKey}
-use Rattle.held.specs.Held.{below}
 use Rattle.distinct.specs.Distinct.{keyedShown}
-use Rattle.distinct.specs.Places.{keysAt, keyedAt, Marked, markedList, keyedTo, Listed, Put}
+use Rattle.distinct.specs.Places.{keysListed, keyedAt, MarksFirsts, markedList, keyedTo, Listed, PutsHit}
 use Rattle.distinct.proofs.KeyedList.{added, keyed-next, keyed-all}
 
 -- ---- the marked places
@@ -53,11 +52,11 @@ module _ (words : List ℕ) (scores : List Float) (firsts : List Bool) where
       )
 
 pub marked-keyed : (keys : List ℕ) (keyed : List Bool) (slots : List ℕ) (scores : List Float) (firsts : List Bool) (n : ℕ) → n ≤ length slots →
-    Marked (keysAt keys slots) (keyedAt keyed slots) firsts n → markedList (keysAt keys slots) scores firsts n ≡ keyedTo keys keyed slots scores n
+    MarksFirsts (keysListed keys slots) (keyedAt keyed slots) firsts n → markedList (keysListed keys slots) scores firsts n ≡ keyedTo keys keyed slots scores n
 unfolding byKey markedList
 marked-keyed keys keyed slots scores firsts zero h m = refl
 marked-keyed keys keyed slots scores firsts (suc n) h m =
-    marked-next (keysAt keys slots) scores firsts n
+    marked-next (keysListed keys slots) scores firsts n
     ∙ rw (marked-keyed keys keyed slots scores firsts n (omega arith) (λ j l. m j (omega arith)), m n (omega arith))
     (sym (keyed-next keys keyed slots scores n (omega arith)))
 
@@ -81,10 +80,10 @@ over-added f list true name score old places room e =
 over-added f list false name score old places room e = rw (append-nil list) e
 
 module _ (mark : Bool) (name : ℕ) (score : Float) (many : ℕ) (names : List ℕ) (scores : List Float) where
-  pub put-marked : mark ≡ true → (word : ℕ) → word ≡ name → Put mark name score many names scores (many + 1) (set names many word) (set scores many score)
+  pub put-marked : mark ≡ true → (word : ℕ) → word ≡ name → PutsHit mark name score many names scores (many + 1) (set names many word) (set scores many score)
   put-marked e word q = record { many-is = rw e; names-are = rw (e, q); scores-are = rw e }
 
-  pub put-none : mark ≡ false → Put mark name score many names scores many names scores
+  pub put-none : mark ≡ false → PutsHit mark name score many names scores many names scores
   put-none e = record { many-is = rw e (sym (add-zero many)); names-are = rw e; scores-are = rw e }
 
 -- the first i of n places are written
@@ -108,7 +107,7 @@ module _ (words : List ℕ) (hits : List Float) (firsts : List Bool) (n : ℕ) (
       abbrev list : List (ℕ × Float)
       list = markedList words hits firsts i
 
-      listed-more : (r : ℕ) (names′ : List ℕ) (scores′ : List Float) → Put (getD firsts i false) (getD words i 0) (getD hits i nan) many names scores r names′ scores′ →
+      listed-more : (r : ℕ) (names′ : List ℕ) (scores′ : List Float) → PutsHit (getD firsts i false) (getD words i 0) (getD hits i nan) many names scores r names′ scores′ →
           Listed (list ++ added (getD firsts i false) (getD words i 0) (getD hits i nan)) names₀ scores₀ r names′ scores′
       listed-more r names′ scores′ p =
           let mark = getD firsts i false in
@@ -122,7 +121,7 @@ module _ (words : List ℕ) (hits : List Float) (firsts : List Bool) (n : ℕ) (
             scores-are = p .scores-are ∙ rw e (over-added (λ e. e .1) list mark name score scores₀ scores (omega (arith, room)) (m .listed .scores-are));
           }
 
-      pub writing-more : (r : ℕ) (names′ : List ℕ) (scores′ : List Float) → Put (getD firsts i false) (getD words i 0) (getD hits i nan) many names scores r names′ scores′ →
+      pub writing-more : (r : ℕ) (names′ : List ℕ) (scores′ : List Float) → PutsHit (getD firsts i false) (getD words i 0) (getD hits i nan) many names scores r names′ scores′ →
           length names′ ≡ length names → length scores′ ≡ length scores → Writing words hits firsts n names₀ scores₀ r names′ scores′ (i + 1)
       writing-more r names′ scores′ p f g =
           record {

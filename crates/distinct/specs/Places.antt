@@ -6,15 +6,15 @@ use Prim.Native.Nat.{ℕ, _+_, _<_}
 use lib.ListN.{length, getD, set}
 use lib.Dec.{eqb}
 use lib.Ieee.{Float, nan}
-use Rattle.lists.specs.Lists.{tab, over}
+use Rattle.lists.specs.Lists.{tab, over, below}
 use Rattle.lists.specs.Keep.{bit, keep}
-use Rattle.held.specs.Held.{below, heldCount}
+use Rattle.held.specs.Held.{heldCount}
 use Rattle.index.specs.Step.{Hit, byKey}
 use Rattle.distinct.specs.Distinct.{hitAt}
 
 -- what the arrays have at each listed slot: a list by places, so that the chains of the crate chains are of places
-unfoldable pub keysAt : (keys slots : List ℕ) → List ℕ
-keysAt keys slots = map (λ i. getD keys i 0) slots
+unfoldable pub keysListed : (keys slots : List ℕ) → List ℕ
+keysListed keys slots = map (λ i. getD keys i 0) slots
 
 unfoldable pub keyedAt : (keyed : List Bool) → (slots : List ℕ) → List Bool
 keyedAt keyed slots = map (λ i. getD keyed i false) slots
@@ -24,8 +24,8 @@ unfoldable pub isFirst : (words : List ℕ) → (on : List Bool) → (place : �
 isFirst words on p = getD on p false && eqb (heldCount words on p (getD words p 0)) 0
 
 -- the first n places are marked where they are the first of their key
-abbrev pub Marked : (words : List ℕ) → (on : List Bool) → (firsts : List Bool) → (n : ℕ) → Type 0
-Marked words on firsts n = (j : ℕ) → j < n → getD firsts j false ≡ isFirst words on j
+abbrev pub MarksFirsts : (words : List ℕ) → (on : List Bool) → (firsts : List Bool) → (n : ℕ) → Type 0
+MarksFirsts words on firsts n = (j : ℕ) → j < n → getD firsts j false ≡ isFirst words on j
 
 -- the keys and scores of the marked places
 unfoldable pub markedList : (words : List ℕ) → (scores : List Float) → (firsts : List Bool) → (n : ℕ) → List (ℕ × Float)
@@ -46,7 +46,7 @@ pub record Listed (list : List (ℕ × Float)) (names₀ : List ℕ) (scores₀ 
   pub scores-are : scores ≡ over (map (λ (e : ℕ × Float). e .1) list) scores₀
 
 -- one entry more in the results where the mark is set
-pub record Put (mark : Bool) (name : ℕ) (score : Float) (many : ℕ) (names₀ : List ℕ) (scores₀ : List Float)
+pub record PutsHit (mark : Bool) (name : ℕ) (score : Float) (many : ℕ) (names₀ : List ℕ) (scores₀ : List Float)
     (r : ℕ) (names : List ℕ) (scores : List Float) : Type 0 where
   pub many-is : r ≡ many + bit mark
   pub names-are : names ≡ cond mark (set names₀ many name) names₀

@@ -9,8 +9,8 @@ ghost use lib.Ieee.{nan};
 ghost use Rattle.lists.specs.Lists.{over};
 ghost use Rattle.chains.specs.Chains.{chainOf, Latest, LastOf, Linked, Chains};
 ghost use Rattle.distinct.specs.Distinct.{keyedShown};
-ghost use Rattle.held.specs.Held.{slotHas};
-ghost use Rattle.distinct.specs.Places.{keysAt, keyedAt, isFirst, Marked, markedList, keyedTo, Listed, Put};
+ghost use Rattle.slot_keys.specs.Has.{slotHas};
+ghost use Rattle.distinct.specs.Places.{keysListed, keyedAt, isFirst, MarksFirsts, markedList, keyedTo, Listed, PutsHit};
 
 fn wide(x: u32) -> usize
     ensures { λ r. ⌜ r ≡ x ⌝ }
@@ -23,9 +23,9 @@ fn wide(x: u32) -> usize
 // The word that stands for the key of a place, where it has one.
 fn place_word(keys: &[u64], slots: &[u32], place: usize) -> u64
     requires { ⌜ place < length (now slots) ⌝ }
-    ensures { λ r. ⌜ r ≡ getD (keysAt (now (keys .entry)) (now (slots .entry))) place 0 ⌝ }
+    ensures { λ r. ⌜ r ≡ getD (keysListed (now (keys .entry)) (now (slots .entry))) place 0 ⌝ }
 {
-    held::key_word(keys, wide(slots[place]))
+    slot_keys::key_word(keys, wide(slots[place]))
 }
 
 // Whether a place has a key.
@@ -33,15 +33,15 @@ fn place_keyed(keyed: &[bool], slots: &[u32], place: usize) -> bool
     requires { ⌜ place < length (now slots) ⌝ }
     ensures { λ r. ⌜ r ≡ getD (keyedAt (now (keyed .entry)) (now (slots .entry))) place false ⌝ }
 {
-    held::is_keyed(keyed, wide(slots[place]))
+    slot_keys::is_keyed(keyed, wide(slots[place]))
 }
 
 // Whether a place has this key.
 fn place_has(keys: &[u64], keyed: &[bool], slots: &[u32], place: usize, key: u64) -> bool
     requires { ⌜ place < length (now slots) ⌝ }
-    ensures { λ r. ⌜ r ≡ slotHas (keysAt (now (keys .entry)) (now (slots .entry))) (keyedAt (now (keyed .entry)) (now (slots .entry))) key place ⌝ }
+    ensures { λ r. ⌜ r ≡ slotHas (keysListed (now (keys .entry)) (now (slots .entry))) (keyedAt (now (keyed .entry)) (now (slots .entry))) key place ⌝ }
 {
-    held::has_key(keys, keyed, wide(slots[place]), key)
+    slot_keys::has_key(keys, keyed, wide(slots[place]), key)
 }
 
 // ---- the first places of their keys
@@ -56,10 +56,12 @@ fn find(
     first: usize,
 ) -> usize
     requires { ⌜ (place < length (now slots)) × (place ≤ length (now before)) ⌝ }
-    requires { ⌜ Linked (keysAt (now keys) (now slots)) (keyedAt (now keyed) (now slots)) (now before) place ⌝ }
-    requires { ⌜ Latest (keysAt (now keys) (now slots)) (keyedAt (now keyed) (now slots)) (chainOf (getD (keysAt (now keys) (now slots)) place 0)) place first ⌝ }
-    ensures { λ r. ⌜ LastOf (keysAt (now (keys .entry)) (now (slots .entry))) (keyedAt (now (keyed .entry)) (now (slots .entry)))
-        (getD (keysAt (now (keys .entry)) (now (slots .entry))) place 0) place r ⌝ }
+    requires { ⌜ Linked (keysListed (now keys) (now slots)) (keyedAt (now keyed) (now slots)) (now before) place ⌝ }
+    requires { ⌜
+        Latest (keysListed (now keys) (now slots)) (keyedAt (now keyed) (now slots))
+        (chainOf (getD (keysListed (now keys) (now slots)) place 0)) place first ⌝ }
+    ensures { λ r. ⌜ LastOf (keysListed (now (keys .entry)) (now (slots .entry))) (keyedAt (now (keyed .entry)) (now (slots .entry)))
+        (getD (keysListed (now (keys .entry)) (now (slots .entry))) place 0) place r ⌝ }
 {
     let key = place_word(keys, slots, place);
     let mut entry = first;
@@ -83,9 +85,9 @@ fn enter(
 ) -> bool
     requires { ⌜ getD (keyedAt (now keyed) (now slots)) place false ≡ true ⌝ }
     requires { ⌜ (place < length (now slots)) × (place < length (now before)) × (place < 65536) × (65521 ≤ length (now heads)) ⌝ }
-    requires { ⌜ Chains (keysAt (now keys) (now slots)) (keyedAt (now keyed) (now slots)) (now heads) (now before) place ⌝ }
-    ensures { λ r. ⌜ r ≡ isFirst (keysAt (now (keys .entry)) (now (slots .entry))) (keyedAt (now (keyed .entry)) (now (slots .entry))) place ⌝ }
-    ensures { λ _. ⌜ Chains (keysAt (now (keys .entry)) (now (slots .entry))) (keyedAt (now (keyed .entry)) (now (slots .entry)))
+    requires { ⌜ Chains (keysListed (now keys) (now slots)) (keyedAt (now keyed) (now slots)) (now heads) (now before) place ⌝ }
+    ensures { λ r. ⌜ r ≡ isFirst (keysListed (now (keys .entry)) (now (slots .entry))) (keyedAt (now (keyed .entry)) (now (slots .entry))) place ⌝ }
+    ensures { λ _. ⌜ Chains (keysListed (now (keys .entry)) (now (slots .entry))) (keyedAt (now (keyed .entry)) (now (slots .entry)))
         (now (heads .exit)) (now (before .exit)) (suc place) ⌝ }
 {
     let chain = chains::chain_of(place_word(keys, slots, place));
@@ -106,9 +108,9 @@ fn is_first(
     place: usize,
 ) -> bool
     requires { ⌜ (place < length (now slots)) × (place < length (now before)) × (place < 65536) × (65521 ≤ length (now heads)) ⌝ }
-    requires { ⌜ Chains (keysAt (now keys) (now slots)) (keyedAt (now keyed) (now slots)) (now heads) (now before) place ⌝ }
-    ensures { λ r. ⌜ r ≡ isFirst (keysAt (now (keys .entry)) (now (slots .entry))) (keyedAt (now (keyed .entry)) (now (slots .entry))) place ⌝ }
-    ensures { λ _. ⌜ Chains (keysAt (now (keys .entry)) (now (slots .entry))) (keyedAt (now (keyed .entry)) (now (slots .entry)))
+    requires { ⌜ Chains (keysListed (now keys) (now slots)) (keyedAt (now keyed) (now slots)) (now heads) (now before) place ⌝ }
+    ensures { λ r. ⌜ r ≡ isFirst (keysListed (now (keys .entry)) (now (slots .entry))) (keyedAt (now (keyed .entry)) (now (slots .entry))) place ⌝ }
+    ensures { λ _. ⌜ Chains (keysListed (now (keys .entry)) (now (slots .entry))) (keyedAt (now (keyed .entry)) (now (slots .entry)))
         (now (heads .exit)) (now (before .exit)) (suc place) ⌝ }
 {
     if place_keyed(keyed, slots, place) {
@@ -129,7 +131,9 @@ fn mark_firsts(
 )
     requires { ⌜ (n ≤ length (now slots)) × (n ≤ length (now before)) × (n ≤ length (now firsts)) × (n ≤ 65536) × (65521 ≤ length (now heads)) ⌝ }
     requires { ⌜ ((k : ℕ) → getD (now heads) k 0 ≡ 0) ⌝ }
-    ensures { λ _. ⌜ Marked (keysAt (now (keys .entry)) (now (slots .entry))) (keyedAt (now (keyed .entry)) (now (slots .entry))) (now (firsts .exit)) n ⌝ }
+    ensures { λ _. ⌜
+        MarksFirsts (keysListed (now (keys .entry)) (now (slots .entry)))
+        (keyedAt (now (keyed .entry)) (now (slots .entry))) (now (firsts .exit)) n ⌝ }
 {
     let mut i = 0;
     while i < n {
@@ -153,8 +157,8 @@ fn write_place(
 ) -> usize
     requires { ⌜ (place < length (now slots)) × (place < length (now hits)) × (place < length (now firsts)) ⌝ }
     requires { ⌜ (place < length (now names)) × (place < length (now scores)) × (many ≤ place) ⌝ }
-    ensures { λ r. ⌜ Put (getD (now (firsts .entry)) place false)
-        (getD (keysAt (now (keys .entry)) (now (slots .entry))) place 0) (getD (now (hits .entry)) place nan) many
+    ensures { λ r. ⌜ PutsHit (getD (now (firsts .entry)) place false)
+        (getD (keysListed (now (keys .entry)) (now (slots .entry))) place 0) (getD (now (hits .entry)) place nan) many
         (now (names .entry)) (now (scores .entry)) r (now (names .exit)) (now (scores .exit)) ⌝ }
 {
     if firsts[place] {
@@ -177,7 +181,7 @@ fn write_firsts(
 ) -> usize
     requires { ⌜ (n ≤ length (now slots)) × (n ≤ length (now hits)) × (n ≤ length (now firsts)) ⌝ }
     requires { ⌜ (n ≤ length (now names)) × (n ≤ length (now scores)) ⌝ }
-    ensures { λ r. ⌜ Listed (markedList (keysAt (now (keys .entry)) (now (slots .entry))) (now (hits .entry)) (now (firsts .entry)) n)
+    ensures { λ r. ⌜ Listed (markedList (keysListed (now (keys .entry)) (now (slots .entry))) (now (hits .entry)) (now (firsts .entry)) n)
         (now (names .entry)) (now (scores .entry)) r (now (names .exit)) (now (scores .exit)) ⌝ }
 {
     let mut many: usize = 0;

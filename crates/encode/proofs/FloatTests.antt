@@ -3,7 +3,7 @@ use mathlib.Core.Path.{_≡_, refl}
 use mathlib.Core.Bool.{true, false}
 use lib.Ieee.{Float, binary32, ofBits, isNan, lt, ne, round}
 use Rattle.pattern.specs.Binary32.{larger}
-use Rattle.unit.proofs.FloatTests.{is-nan, no-nan}
+use Rattle.vectors.proofs.FloatTests.{is-nan, no-nan}
 use Rattle.encode.specs.Encode.{floor}
 
 pub larger-nan : (x y : Float) → ne x x ≡ true → y ≡ larger x y

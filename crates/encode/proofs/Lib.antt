@@ -1,7 +1,8 @@
--- Laws that the proofs of this crate's functions cite.
+-- Laws that the proofs of this crate's functions cite, and those of the crates above.
 mod Filling
 mod Sums
 mod FloatTests
-mod Stages
+pub mod OneStage
+pub mod Residual
 mod Whole
 pub mod Fit

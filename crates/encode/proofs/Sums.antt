@@ -8,7 +8,7 @@ use lib.ListN.{length, take, getD}
 use lib.Seq.{take-suc, take-all}
 use lib.Ieee.{Float, nan, binary32, ofBits}
 use Rattle.lists.specs.Lists.{zipWith}
-use Rattle.pattern.specs.Binary32.{_⊕_, _⊗_, +0, sum, sumFrom}
+use Rattle.pattern.specs.Binary32.{_⊕_, _⊗_, +0, sumOf, sumFrom}
 use Rattle.pattern.proofs.Sums.{sum-snoc}
 use Rattle.encode.specs.Encode.{dot}
 use Rattle.lists.proofs.Entries.{length-zip, getD-zip}
@@ -17,7 +17,7 @@ use Rattle.lists.proofs.Entries.{length-zip, getD-zip}
 pub record Products (xs ys : List Float) (acc : Float) (i : ℕ) : Type 0 where
   pub within : i ≤ length xs
   pub same : length ys ≡ length xs
-  pub total : acc ≡ sum (take i (zipWith _⊗_ xs ys))
+  pub total : acc ≡ sumOf (take i (zipWith _⊗_ xs ys))
 
 pub products-none : (xs ys : List Float) → length ys ≡ length xs → Products xs ys (ofBits binary32 0) 0
 unfolding sumFrom ofBits
@@ -36,4 +36,4 @@ module _ (xs ys : List Float) (acc : Float) (i : ℕ) (inv : Products xs ys acc 
 
   pub products-all : length xs ≤ i → acc ≡ dot xs ys
   unfolding dot
-  products-all h = inv .total ∙ ap sum (take-all i (zipWith _⊗_ xs ys) (rw (length-zip _⊗_ xs ys (inv .same)) h))
+  products-all h = inv .total ∙ ap sumOf (take-all i (zipWith _⊗_ xs ys) (rw (length-zip _⊗_ xs ys (inv .same)) h))

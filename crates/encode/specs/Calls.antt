@@ -2,18 +2,33 @@
 use mathlib.Core.Bool.{Bool, not, cond, _&&_, _||_}
 use mathlib.Core.List.{List}
 use mathlib.Core.Option.{none, some}
-use Prim.Native.Nat.{ℕ}
-use lib.Dec.{eqb}
+use Prim.Native.Nat.{ℕ, _^_}
+use lib.Dec.{eqb, leb, ltb}
 use lib.ListN.{length}
-use lib.Ieee.{Float}
+use Rattle.unit.specs.Brought.{Item}
 use Rattle.unit.specs.Calls.{rotatable}
+use Rattle.codes.specs.Packing.{bytesPerVector, spare}
+use Rattle.codes.specs.Writing.{isWidth}
 use Rattle.codes.specs.Stage.{Stage, stage}
-use Rattle.stage.specs.Coding.{Table, stored}
-use Rattle.stage.specs.Calls.{fits, spareAfter, untouched}
+use Rattle.encode.specs.Coding.{Table, packedStage}
 use Rattle.encode.specs.declared.Scales.{Scales}
 use Rattle.encode.specs.Header.{Header, padded}
-use Rattle.encode.specs.Encode.{Codings, residual}
-use Rattle.encode.specs.Coded.{Code, Spare, encoded}
+use Rattle.encode.specs.Encode.{Codings}
+use Rattle.encode.specs.Coded.{Code, Spare, encodedByTable}
+
+-- ---- codes of one stage
+
+-- The width is one of 1 to 8 bits, the table has no code past the width, there are at most 4,096 codes, and the block has just their bytes.
+unfoldable pub codable : (w boundaries codes block : ℕ) → Bool
+codable w boundaries codes block = isWidth w && (ltb boundaries (2 ^ w) && (leb codes 4096 && eqb block (bytesPerVector w codes)))
+
+-- the spare bits that a block of p codes has after an append, and after an overwrite
+unfoldable pub spareAfter : (fresh : Bool) → (w p : ℕ) → (block : List ℕ) → ℕ
+spareAfter fresh w p block = cond fresh 0 (spare w p block)
+
+-- a block that is left as it is
+abbrev pub untouched : (block : List ℕ) → Stage
+untouched block = stage 0 block
 
 -- ---- codes of a residual index
 
@@ -32,28 +47,21 @@ abbrev pub sparesAfter : (fresh : Bool) → (w p : ℕ) → (block block2 : List
 sparesAfter fresh w p block block2 = record { first = spareAfter fresh w p block; second = spareAfter fresh w p block2 }
 
 abbrev pub storedBoth : (w : ℕ) → (above : Spare) → Codings → Stages
-storedBoth w above g = record { first = stored w (above .first) (g .first); second = stored w (above .second) (g .second) }
-
--- the second block has as many bytes as the first
-unfoldable pub residualInto : Table → (w : ℕ) → (fresh : Bool) → (rotated : List Float) → (block block2 : List ℕ) → Stages
-residualInto t w fresh xs block block2 =
-    cond (fits w (length (t .boundaries)) (length xs) (length block) && eqb (length block2) (length block))
-    (storedBoth w (sparesAfter fresh w (length xs) block block2) (residual t xs))
-    (untouchedBoth block block2)
+storedBoth w above g = record { first = packedStage w (above .first) (g .first); second = packedStage w (above .second) (g .second) }
 
 -- ---- a whole vector
 
 -- The vector can be rotated, the block fits, and where the index is residual the second block has as many bytes.
 unfoldable pub encodable : Header → (boundaries entries block block2 : ℕ) → Bool
 encodable h boundaries entries block block2 =
-    rotatable (h .working) entries 4096 && (fits (h .width) boundaries (padded h) block && (not (h .residual) || eqb block2 block))
+    rotatable (h .«working_dim») entries 4096 && (codable (h .bits) boundaries (padded h) block && (not (h .residual) || eqb block2 block))
 
 -- a code in a slot's places: where it has no second stage, the second block is left as it is
 abbrev pub placed : Code → (block2 : List ℕ) → Stages
 placed c block2 = record { first = c .first; second = elim (c .second) [ none ↦ untouched block2 | some g ↦ g ] }
 
-unfoldable pub encodedInto : Table → Header → (fresh : Bool) → (v : List Float) → (block block2 : List ℕ) → Stages
+unfoldable pub encodedInto : Table → Header → (fresh : Bool) → Item → (block block2 : List ℕ) → Stages
 encodedInto t h fresh v block block2 =
-    cond (encodable h (length (t .boundaries)) (length v) (length block) (length block2))
-    (placed (encoded t h (sparesAfter fresh (h .width) (padded h) block block2) v) block2)
+    cond (encodable h (length (t .boundaries)) (length (v .vector)) (length block) (length block2))
+    (placed (encodedByTable t h (sparesAfter fresh (h .bits) (padded h) block block2) v) block2)
     (untouchedBoth block block2)

@@ -4,10 +4,12 @@ use mathlib.Core.List.{List}
 use mathlib.Core.Option.{Option, none, some}
 use Prim.Native.Nat.{ℕ}
 use lib.Ieee.{Float}
-use Rattle.unit.specs.Unit.{vectorFault, rotatedBy}
+use Rattle.unit.specs.Brought.{Item}
+use Rattle.vectors.specs.Vectors.{vectorFault}
+use Rattle.unit.specs.Unit.{rotatedBy}
 use Rattle.codes.specs.Packing.{spare}
 use Rattle.codes.specs.Stage.{Stage}
-use Rattle.stage.specs.Coding.{Table, plain, stored}
+use Rattle.encode.specs.Coding.{Table, plain, packedStage}
 use Rattle.encode.specs.Header.{Header, padded}
 use Rattle.encode.specs.Encode.{residual}
 
@@ -21,10 +23,10 @@ codeIn residual first second = record { first = first; second = cond residual (s
 
 -- 1, 2 or 3 where a vector or a query is turned down, else 0
 abbrev pub fault : Header → List Float → ℕ
-fault h v = vectorFault (h .dim) (h .working) v
+fault h v = vectorFault (h .dim) (h .«working_dim») v
 
 abbrev pub rotatedOf : Header → List Float → List Float
-rotatedOf h v = rotatedBy (h .working) (h .seed) v
+rotatedOf h v = rotatedBy (h .«working_dim») (h .seed) v
 
 -- the spare bits above the codes, in the block of each stage
 pub record Spare : Type 0 where
@@ -36,15 +38,15 @@ abbrev pub noSpare : Spare
 noSpare = record { first = 0; second = 0 }
 
 abbrev pub spareIn : Header → Stage → ℕ
-spareIn h g = spare (h .width) (padded h) (g .block)
+spareIn h g = spare (h .bits) (padded h) (g .block)
 
 abbrev pub spareOf : Header → Code → Spare
 spareOf h c = record { first = spareIn h (c .first); second = elim (c .second) [ none ↦ 0 | some g ↦ spareIn h g ] }
 
-unfoldable pub encoded : Table → Header → (above : Spare) → List Float → Code
-encoded t h above v =
-    let xs = rotatedOf h v in
+unfoldable pub encodedByTable : Table → Header → (above : Spare) → Item → Code
+encodedByTable t h above v =
+    let xs = rotatedOf h (v .vector) in
     let both = residual t xs in
     cond (h .residual)
-    (record { first = stored (h .width) (above .first) (both .first); second = some (stored (h .width) (above .second) (both .second)) })
-    (record { first = stored (h .width) (above .first) (plain t xs); second = none })
+    (record { first = packedStage (h .bits) (above .first) (both .first); second = some (packedStage (h .bits) (above .second) (both .second)) })
+    (record { first = packedStage (h .bits) (above .first) (plain t xs); second = none })

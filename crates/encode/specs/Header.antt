@@ -6,8 +6,8 @@ pub use Rattle.encode.specs.declared.Header.{Header}
 
 -- how many entries the rotated vector has, and how many codes
 abbrev pub padded : Header → ℕ
-padded h = paddedDim (h .working)
+padded h = paddedDim (h .«working_dim»)
 
 -- 01, store.rs: "Bytes per vector"
 abbrev pub blockSize : Header → ℕ
-blockSize h = bytesPerVector (h .width) (padded h)
+blockSize h = bytesPerVector (h .bits) (padded h)

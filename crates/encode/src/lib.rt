@@ -4,19 +4,23 @@ ghost use mathlib.Core.Bool.{true};
 ghost use Prim.Native.Nat.{_≤_};
 ghost use lib.ListN.{length};
 ghost use Rattle.pattern.specs.Binary32.{sumSquares, larger};
-ghost use Rattle.stage.specs.Coding.{table};
-ghost use Rattle.stage.specs.Calls.{fits};
-ghost use Rattle.encode.specs.Encode.{floor, differences, dot, rootMeanSquare, scaled, residual, firstScale, secondScale};
+ghost use Rattle.codes.specs.Packing.{packed};
+ghost use Rattle.codes.specs.Writing.{repacked};
+ghost use Rattle.codes.specs.Stage.{stage};
+ghost use Rattle.unit.specs.Brought.{itemOf};
 ghost use Rattle.encode.specs.Header.{padded};
-ghost use Rattle.encode.specs.Coded.{encoded};
-ghost use Rattle.encode.specs.Calls.{stages, sparesAfter, storedBoth, residualInto, encodable, placed, encodedInto};
+ghost use Rattle.lloyd.specs.Quantizer.{decoded};
+ghost use Rattle.encode.specs.Coding.{table, coded, dequantized, plain, packedStage};
+ghost use Rattle.encode.specs.Encode.{floor, differences, dot, rootMeanSquare, scaled, residual, firstScale, secondScale};
+ghost use Rattle.encode.specs.Coded.{encodedByTable};
+ghost use Rattle.encode.specs.Calls.{codable, spareAfter, stages, sparesAfter, storedBoth, encodable, placed, encodedInto};
 
 // What fixes how a vector is coded, and stays while slots are in use.
 pub struct Header {
     pub dim: usize,
-    pub working: usize,
+    pub working_dim: usize,
     pub seed: u64,
-    pub width: u8,
+    pub bits: u8,
     pub residual: bool,
 }
 
@@ -25,6 +29,168 @@ pub struct Scales {
     pub scale: u32,
     pub scale2: u32,
 }
+
+// Working arrays. Their contents don't matter.
+fn floats() -> [f32; 4096] {
+    [0.0; 4096]
+}
+
+fn bytes() -> [u8; 4096] {
+    [0; 4096]
+}
+
+// ---- one stage
+
+// Whether a table of so many boundaries, so many codes and a block of so many bytes fit one another at this width.
+fn is_codable(bits: u8, boundaries: usize, codes: usize, block: usize) -> bool
+    ensures { λ r. ⌜ r ≡ codable bits boundaries codes block ⌝ }
+{
+    if bits == 0 {
+        return false;
+    }
+    if 8 < bits {
+        return false;
+    }
+    if 1usize << bits <= boundaries {
+        return false;
+    }
+    if 4096 < codes {
+        return false;
+    }
+    block == codes::bytes_per_vector(codes, bits)
+}
+
+// The centroid of each code.
+fn decode(centroids: &[f32], codes: &[u8], out: &mut [f32])
+    requires { ⌜ length (now out) ≡ length (now codes) ⌝ }
+    ensures { λ _. ⌜ now (out .exit) ≡ decoded (now (centroids .entry)) (now (codes .entry)) ⌝ }
+{
+    let mut i = 0;
+    while i < codes.len() {
+        out[i] = dequantizer::dequantize_in(centroids, codes[i] as usize);
+        i += 1;
+    }
+}
+
+// The codes into the block of an appended slot, or over that of an overwritten one.
+fn pack(codes: &[u8], bits: u8, fresh: bool, block: &mut [u8])
+    ensures { λ _. ⌜
+        now (block .exit) ≡
+        repacked bits (now (codes .entry)) (spareAfter fresh bits (length (now (codes .entry))) (now (block .entry))) (now (block .entry)) ⌝ }
+{
+    if fresh {
+        packing::pack_new(block, codes, bits);
+    } else {
+        packing::pack_over(block, codes, bits);
+    }
+}
+
+// One stage, by way of an array of codes. The sum of squares isn't needed here.
+fn store_fitting(
+    boundaries: &[f32],
+    centroids: &[f32],
+    xs: &[f32],
+    bits: u8,
+    fresh: bool,
+    codes: &mut [u8],
+    d: &mut [f32],
+    block: &mut [u8],
+)
+    requires { ⌜ codable bits (length (now boundaries)) (length (now xs)) (length (now block)) ≡ true ⌝ }
+    requires { ⌜ (length (now codes) ≡ length (now xs)) × (length (now d) ≡ length (now xs)) ⌝ }
+    ensures values { λ _. ⌜ now (d .exit) ≡ dequantized (table (now (boundaries .entry)) (now (centroids .entry))) (now (xs .entry)) ⌝ }
+    ensures block { λ _. ⌜
+        now (block .exit) ≡
+        packed bits (coded (now (boundaries .entry)) (now (xs .entry))) (spareAfter fresh bits (length (now (xs .entry))) (now (block .entry))) ⌝ }
+{
+    quantizer::quantize_summing(boundaries, centroids, xs, codes);
+    pack(codes, bits, fresh, block);
+    decode(centroids, codes, d);
+}
+
+// One stage: the codes of xs into the block, and the centroids that they stand for in d.
+fn store(
+    boundaries: &[f32],
+    centroids: &[f32],
+    xs: &[f32],
+    bits: u8,
+    fresh: bool,
+    d: &mut [f32],
+    block: &mut [u8],
+)
+    requires { ⌜ codable bits (length (now boundaries)) (length (now xs)) (length (now block)) ≡ true ⌝ }
+    requires { ⌜ length (now d) ≡ length (now xs) ⌝ }
+    ensures values { λ _. ⌜ now (d .exit) ≡ dequantized (table (now (boundaries .entry)) (now (centroids .entry))) (now (xs .entry)) ⌝ }
+    ensures block { λ _. ⌜
+        now (block .exit) ≡
+        packed bits (coded (now (boundaries .entry)) (now (xs .entry))) (spareAfter fresh bits (length (now (xs .entry))) (now (block .entry))) ⌝ }
+{
+    let n = xs.len();
+    let mut codes = bytes();
+    store_fitting(
+        boundaries,
+        centroids,
+        xs,
+        bits,
+        fresh,
+        &mut codes[0..n],
+        d,
+        block,
+    );
+}
+
+// ---- a plain index
+
+// Its one stage, by way of an array of codes. The centroids are needed for their sum of squares only.
+fn store_plain(
+    boundaries: &[f32],
+    centroids: &[f32],
+    rotated: &[f32],
+    bits: u8,
+    fresh: bool,
+    codes: &mut [u8],
+    block: &mut [u8],
+) -> u32
+    requires { ⌜ codable bits (length (now boundaries)) (length (now rotated)) (length (now block)) ≡ true ⌝ }
+    requires { ⌜ length (now codes) ≡ length (now rotated) ⌝ }
+    ensures { λ r. ⌜
+        stage r (now (block .exit)) ≡ packedStage bits (spareAfter fresh bits (length (now (rotated .entry))) (now (block .entry)))
+        (plain (table (now (boundaries .entry)) (now (centroids .entry))) (now (rotated .entry))) ⌝ }
+{
+    let sum = quantizer::quantize_summing(boundaries, centroids, rotated, codes);
+    pack(codes, bits, fresh, block);
+    let norm = sqrt::sqrt(sum);
+    pattern::to_bits(1.0 / norm)
+}
+
+// The codes of a rotated vector into the block of a slot. The result is the scale's pattern.
+fn encode_plain(
+    boundaries: &[f32],
+    centroids: &[f32],
+    rotated: &[f32],
+    bits: u8,
+    fresh: bool,
+    block: &mut [u8],
+) -> u32
+    requires { ⌜ codable bits (length (now boundaries)) (length (now rotated)) (length (now block)) ≡ true ⌝ }
+    ensures { λ r. ⌜
+        stage r (now (block .exit)) ≡ packedStage bits (spareAfter fresh bits (length (now (rotated .entry))) (now (block .entry)))
+        (plain (table (now (boundaries .entry)) (now (centroids .entry))) (now (rotated .entry))) ⌝ }
+{
+    let n = rotated.len();
+    let mut codes = bytes();
+    store_plain(
+        boundaries,
+        centroids,
+        rotated,
+        bits,
+        fresh,
+        &mut codes[0..n],
+        block,
+    )
+}
+
+// ---- a residual index
 
 // What two vectors sum up to: the squares of the first, the products of both, the squares of the second.
 struct ThreeSums {
@@ -87,7 +253,7 @@ fn root_mean_square(xs: &[f32]) -> f32
     requires { ⌜ length (now xs) ≤ 4096 ⌝ }
     ensures { λ r. ⌜ r ≡ rootMeanSquare (now (xs .entry)) ⌝ }
 {
-    let sum = unit::sum_squares(xs);
+    let sum = vectors::sum_squares(xs);
     sqrt::sqrt(at_least_floor(sum / xs.len() as f32))
 }
 
@@ -100,7 +266,7 @@ fn scale_rest(rotated: &[f32], d: &[f32], e: &mut [f32]) -> f32
 {
     subtract(rotated, d, e);
     let rms = root_mean_square(e);
-    unit::divide(e, rms);
+    vectors::divide(e, rms);
     rms
 }
 
@@ -122,12 +288,7 @@ fn residual_scales(d: &[f32], e: &[f32], rms: f32) -> Scales
     }
 }
 
-// A working array. Its contents don't matter.
-fn floats() -> [f32; 4096] {
-    [0.0; 4096]
-}
-
-// Both stages of a residual index, in blocks that fit.
+// Both stages, in working arrays that fit.
 fn store_residual(
     boundaries: &[f32],
     centroids: &[f32],
@@ -140,14 +301,17 @@ fn store_residual(
     block: &mut [u8],
     block2: &mut [u8],
 ) -> Scales
-    requires { ⌜ fits bits (length (now boundaries)) (length (now rotated)) (length (now block)) ≡ true ⌝ }
+    requires { ⌜ codable bits (length (now boundaries)) (length (now rotated)) (length (now block)) ≡ true ⌝ }
     requires { ⌜ length (now block2) ≡ length (now block) ⌝ }
     requires { ⌜ (length (now d) ≡ length (now rotated)) × (length (now rest) ≡ length (now rotated)) × (length (now e) ≡ length (now rotated)) ⌝ }
-    ensures { λ r. ⌜ stages r (now (block .exit)) (now (block2 .exit)) ≡ storedBoth bits (sparesAfter fresh bits (length (now (rotated .entry))) (now (block .entry)) (now (block2 .entry))) (residual (table (now (boundaries .entry)) (now (centroids .entry))) (now (rotated .entry))) ⌝ }
+    ensures { λ r. ⌜
+        stages r (now (block .exit)) (now (block2 .exit))
+        ≡ storedBoth bits (sparesAfter fresh bits (length (now (rotated .entry))) (now (block .entry)) (now (block2 .entry)))
+        (residual (table (now (boundaries .entry)) (now (centroids .entry))) (now (rotated .entry))) ⌝ }
 {
-    stage::store(boundaries, centroids, rotated, bits, fresh, d, block);
+    store(boundaries, centroids, rotated, bits, fresh, d, block);
     let rms = scale_rest(rotated, d, rest);
-    stage::store(boundaries, centroids, rest, bits, fresh, e, block2);
+    store(boundaries, centroids, rest, bits, fresh, e, block2);
     residual_scales(d, e, rms)
 }
 
@@ -161,21 +325,14 @@ fn encode_residual(
     block: &mut [u8],
     block2: &mut [u8],
 ) -> Scales
-    ensures { λ r. ⌜ stages r (now (block .exit)) (now (block2 .exit)) ≡ residualInto (table (now (boundaries .entry)) (now (centroids .entry))) bits fresh (now (rotated .entry)) (now (block .entry)) (now (block2 .entry)) ⌝ }
+    requires { ⌜ codable bits (length (now boundaries)) (length (now rotated)) (length (now block)) ≡ true ⌝ }
+    requires { ⌜ length (now block2) ≡ length (now block) ⌝ }
+    ensures { λ r. ⌜
+        stages r (now (block .exit)) (now (block2 .exit))
+        ≡ storedBoth bits (sparesAfter fresh bits (length (now (rotated .entry))) (now (block .entry)) (now (block2 .entry)))
+        (residual (table (now (boundaries .entry)) (now (centroids .entry))) (now (rotated .entry))) ⌝ }
 {
     let n = rotated.len();
-    if !stage::fits(bits, boundaries.len(), n, block.len()) {
-        return Scales {
-            scale: 0,
-            scale2: 0,
-        };
-    }
-    if block2.len() != block.len() {
-        return Scales {
-            scale: 0,
-            scale2: 0,
-        };
-    }
     let mut d = floats();
     let mut rest = floats();
     let mut e = floats();
@@ -193,6 +350,8 @@ fn encode_residual(
     )
 }
 
+// ---- a whole vector
+
 // Whether a vector of so many entries can be coded as the header says, into blocks of so many bytes.
 fn is_encodable(
     header: Header,
@@ -203,11 +362,11 @@ fn is_encodable(
 ) -> bool
     ensures { λ r. ⌜ r ≡ encodable header boundaries entries block block2 ⌝ }
 {
-    if !unit::is_rotatable(header.working, entries, 4096) {
+    if !unit::is_rotatable(header.working_dim, entries, 4096) {
         return false;
     }
-    let padded = padding::padded_dim(header.working);
-    if !stage::fits(header.width, boundaries, padded, block) {
+    let padded = padding::padded_dim(header.working_dim);
+    if !is_codable(header.bits, boundaries, padded, block) {
         return false;
     }
     if header.residual {
@@ -229,22 +388,27 @@ fn store_vector(
 ) -> Scales
     requires { ⌜ encodable header (length (now boundaries)) (length (now v)) (length (now block)) (length (now block2)) ≡ true ⌝ }
     requires { ⌜ length (now rotated) ≡ padded header ⌝ }
-    ensures { λ r. ⌜ stages r (now (block .exit)) (now (block2 .exit)) ≡ placed (encoded (table (now (boundaries .entry)) (now (centroids .entry))) header (sparesAfter fresh (header .width) (padded header) (now (block .entry)) (now (block2 .entry))) (now (v .entry))) (now (block2 .entry)) ⌝ }
+    ensures { λ r. ⌜
+        stages r (now (block .exit)) (now (block2 .exit))
+        ≡ placed
+        (encodedByTable (table (now (boundaries .entry)) (now (centroids .entry))) header
+        (sparesAfter fresh (header .bits) (padded header) (now (block .entry)) (now (block2 .entry))) (itemOf (now (v .entry))))
+        (now (block2 .entry)) ⌝ }
 {
-    unit::rotate(header.working, header.seed, v, rotated);
+    unit::rotate(header.working_dim, header.seed, v, rotated);
     if header.residual {
         return encode_residual(
             boundaries,
             centroids,
             rotated,
-            header.width,
+            header.bits,
             fresh,
             block,
             block2,
         );
     }
     Scales {
-        scale: stage::encode_plain(boundaries, centroids, rotated, header.width, fresh, block),
+        scale: encode_plain(boundaries, centroids, rotated, header.bits, fresh, block),
         scale2: 0,
     }
 }
@@ -259,7 +423,10 @@ pub fn encode(
     block: &mut [u8],
     block2: &mut [u8],
 ) -> Scales
-    ensures { λ r. ⌜ stages r (now (block .exit)) (now (block2 .exit)) ≡ encodedInto (table (now (boundaries .entry)) (now (centroids .entry))) header fresh (now (v .entry)) (now (block .entry)) (now (block2 .entry)) ⌝ }
+    ensures { λ r. ⌜
+        stages r (now (block .exit)) (now (block2 .exit))
+        ≡ encodedInto (table (now (boundaries .entry)) (now (centroids .entry))) header
+        fresh (itemOf (now (v .entry))) (now (block .entry)) (now (block2 .entry)) ⌝ }
 {
     if !is_encodable(header, boundaries.len(), v.len(), block.len(), block2.len()) {
         return Scales {
@@ -267,7 +434,7 @@ pub fn encode(
             scale2: 0,
         };
     }
-    let padded = padding::padded_dim(header.working);
+    let padded = padding::padded_dim(header.working_dim);
     let mut rotated = floats();
     store_vector(
         header,

@@ -23,6 +23,7 @@ ghost use lib.ListN.{length};
 use encode::Header;
 use encode::Scales;
 use score::Scored;
+use values::Run;
 
 fn main() {
     let mut buf = input();
@@ -75,92 +76,78 @@ fn command(word: &[u8]) -> usize {
 
 fn answer_command(line: &[u8], c: usize, out: &mut [u8]) -> usize {
     match c {
-        0 => answer_encode(line, out),
-        1 => answer_over(line, out),
+        0 => answer_encoding(line, true, out),
+        1 => answer_encoding(line, false, out),
         2 => answer_prepare(line, out),
-        3 => answer_score(line, out),
-        4 => answer_score2(line, out),
-        5 => answer_order(line, out),
-        _ => print::put_unreadable(out),
+        _ => put_reply(out, reply_command(line, c)),
     }
 }
 
 fn put_refused(out: &mut [u8], fault: u8) -> usize {
     let at = print::put_bytes(out, 0, b"refused ");
-    print::put_decimal(out, at, fault as u64)
+    numerals::put_decimal(out, at, fault as u64)
 }
 
 // ---- encodings
 
-fn answer_encode(line: &[u8], out: &mut [u8]) -> usize {
-    let x = header_at(line, 7);
-    let n = block_length(x.header);
-    if !x.ok {
+// A line of `encode`, which is fresh, or of `over`: the vector stands in its last field, after the blocks that it is written over.
+fn answer_encoding(line: &[u8], fresh: bool, out: &mut [u8]) -> usize {
+    let last = last_field(fresh);
+    let x = header_at(line, last + 1);
+    let mut v = floats();
+    let r = values::vector_at(line, last, &mut v);
+    let n = r.length;
+    if !(x.ok & r.ok) {
         return print::put_unreadable(out);
     }
-    let mut block = bytes();
-    let mut block2 = bytes();
-    answer_blocks(
-        line,
-        6,
-        x.header,
-        true,
-        &mut block[0..n],
-        &mut block2[0..n],
-        out,
-    )
+    answer_blocks(line, x.header, fresh, &v[0..n], out)
+}
+
+fn last_field(fresh: bool) -> usize
+    ensures { λ r. ⌜ r ≤ 8 ⌝ }
+{
+    if fresh {
+        return 6;
+    }
+    8
+}
+
+// Where a block is fresh, as many zeros as it has; else the bytes in field i.
+fn block_at(line: &[u8], i: usize, fresh: bool, header: Header, block: &mut [u8]) -> Run
+    ensures { λ r. ⌜ r .length ≤ length (now (block .entry)) ⌝ }
+{
+    if fresh {
+        return Run {
+            ok: true,
+            length: block_length(header, block.len()),
+        };
+    }
+    values::bytes_at(line, i, block)
 }
 
 // How long a block is; a header that can be read has none of over 3,072 bytes.
-fn block_length(header: Header) -> usize
-    ensures { λ r. ⌜ r ≤ 4096 ⌝ }
+fn block_length(header: Header, most: usize) -> usize
+    ensures { λ r. ⌜ r ≤ most ⌝ }
 {
-    let n = codes::bytes_per_vector(padding::padded_dim(header.working), header.width);
-    if 4096 < n {
+    let n = codes::bytes_per_vector(padding::padded_dim(header.working_dim), header.bits);
+    if most < n {
         return 0;
     }
     n
 }
 
-fn answer_over(line: &[u8], out: &mut [u8]) -> usize {
-    let x = header_at(line, 9);
+// The vector encoded into both blocks.
+fn answer_blocks(line: &[u8], header: Header, fresh: bool, v: &[f32], out: &mut [u8]) -> usize {
     let mut block = bytes();
     let mut block2 = bytes();
-    let a = values::bytes_at(line, 6, &mut block);
-    let b = values::bytes_at(line, 7, &mut block2);
+    let a = block_at(line, 6, fresh, header, &mut block);
+    let b = block_at(line, 7, fresh, header, &mut block2);
     let n = a.length;
     let n2 = b.length;
-    if !(x.ok && a.ok && b.ok) {
+    if !(a.ok & b.ok) {
         return print::put_unreadable(out);
     }
-    answer_blocks(
-        line,
-        8,
-        x.header,
-        false,
-        &mut block[0..n],
-        &mut block2[0..n2],
-        out,
-    )
-}
-
-// The vector in field i, encoded into the blocks.
-fn answer_blocks(
-    line: &[u8],
-    i: usize,
-    header: Header,
-    fresh: bool,
-    block: &mut [u8],
-    block2: &mut [u8],
-    out: &mut [u8],
-) -> usize {
-    let mut v = floats();
-    let x = values::vector_at(line, i, &mut v);
-    let n = x.length;
-    if x.ok {
-        return put_encoding(out, header, fresh, &v[0..n], block, block2);
-    }
-    print::put_unreadable(out)
+    put_encoding(out, header, fresh, v, &mut block[0..n], &mut block2[0..n2])
 }
 
 fn put_encoding(
@@ -171,7 +158,7 @@ fn put_encoding(
     block: &mut [u8],
     block2: &mut [u8],
 ) -> usize {
-    let fault = unit::vector_fault(header.dim, header.working, v);
+    let fault = vectors::vector_fault(header.dim, header.working_dim, v);
     if fault != 0 {
         return put_refused(out, fault);
     }
@@ -187,9 +174,9 @@ fn encode_by_width(
     block: &mut [u8],
     block2: &mut [u8],
 ) -> Scales {
-    let n = levels(header.width);
-    let boundaries = lloyd::boundaries(header.width);
-    let centroids = lloyd::centroids(header.width);
+    let n = levels(header.bits);
+    let boundaries = lloyd::boundaries(header.bits);
+    let centroids = lloyd::centroids(header.bits);
     encode::encode(
         header,
         fresh,
@@ -211,22 +198,19 @@ fn put_slot(out: &mut [u8], residual: bool, s: Scales, block: &[u8], block2: &[u
 }
 
 fn put_stage(out: &mut [u8], at: usize, block: &[u8], scale: u32) -> usize {
-    let next = print::put_run(out, at, block);
+    let next = numerals::put_run(out, at, block);
     let after = print::put_byte(out, next, b' ');
-    print::put_hex(out, after, scale as u64, 8)
+    numerals::put_hex(out, after, scale as u64, 8)
 }
 
 // ---- queries
 
 fn answer_prepare(line: &[u8], out: &mut [u8]) -> usize {
     let mut q = floats();
-    let x = query_at(line, 5, 1, 4, &mut q);
+    let x = query_at(line, 1, 4, &mut q);
     let n = x.length;
-    if !x.ok {
-        return print::put_unreadable(out);
-    }
-    if x.fault != 0 {
-        return put_refused(out, x.fault);
+    if !x.ok | (x.fault != 0) {
+        return put_reply(out, no_answer(x.ok, x.fault));
     }
     put_query(out, x.rnorm, &q[0..n])
 }
@@ -234,11 +218,11 @@ fn answer_prepare(line: &[u8], out: &mut [u8]) -> usize {
 fn put_query(out: &mut [u8], rnorm: f32, q: &[f32]) -> usize {
     let at = put_float(out, 0, rnorm);
     let next = print::put_byte(out, at, b' ');
-    print::put_vector(out, next, q)
+    numerals::put_vector(out, next, q)
 }
 
 fn put_float(out: &mut [u8], at: usize, x: f32) -> usize {
-    print::put_hex(out, at, pattern::to_bits(x) as u64, 8)
+    numerals::put_hex(out, at, pattern::to_bits(x) as u64, 8)
 }
 
 // A query as a line has it: whether it can be read, the refusal or 0, and how many entries the prepared query has.
@@ -260,16 +244,16 @@ fn no_query(ok: bool, fault: u8) -> Query
     }
 }
 
-// The query in field i of a line of count fields, prepared in the first places of q. What it is prepared by stands from field `from` on.
-fn query_at(line: &[u8], count: usize, from: usize, i: usize, q: &mut [f32]) -> Query
-    requires { ⌜ from ≤ 3 ⌝ }
+// The query in the last field of a line, prepared in the first places of q. What it is prepared by stands from field `from` on.
+fn query_at(line: &[u8], from: usize, last: usize, q: &mut [f32]) -> Query
+    requires { ⌜ (from ≤ 3) × (last ≤ 9) ⌝ }
     ensures { λ r. ⌜ r .length ≤ length (now (q .entry)) ⌝ }
 {
-    let s = space_at(line, count, from);
+    let s = space_at(line, last + 1, from);
     let mut v = floats();
-    let x = values::vector_at(line, i, &mut v);
+    let x = values::vector_at(line, last, &mut v);
     let n = x.length;
-    if !(s.ok && x.ok) {
+    if !(s.ok & x.ok) {
         return no_query(false, 0);
     }
     prepare(s, &v[0..n], q)
@@ -278,7 +262,7 @@ fn query_at(line: &[u8], count: usize, from: usize, i: usize, q: &mut [f32]) -> 
 fn prepare(s: Space, v: &[f32], q: &mut [f32]) -> Query
     ensures { λ r. ⌜ r .length ≤ length (now (q .entry)) ⌝ }
 {
-    let fault = unit::vector_fault(s.dim, s.working, v);
+    let fault = vectors::vector_fault(s.dim, s.working, v);
     let padded = padding::padded_dim(s.working);
     if fault != 0 {
         return no_query(true, fault);
@@ -296,61 +280,77 @@ fn prepare(s: Space, v: &[f32], q: &mut [f32]) -> Query
 
 // ---- scores
 
-fn answer_score(line: &[u8], out: &mut [u8]) -> usize {
+// An answer that has no block and no vector in it.
+enum Reply {
+    Unreadable,
+    Read(Scored),
+    Order(u32),
+}
+
+fn reply_command(line: &[u8], c: usize) -> Reply {
+    match c {
+        3 => reply_score(line, 7),
+        4 => reply_score(line, 9),
+        5 => reply_order(line),
+        _ => Reply::Unreadable,
+    }
+}
+
+// The reply where there is none of the kind asked for: the line can't be read, or what it has is refused.
+fn no_answer(ok: bool, fault: u8) -> Reply {
+    if ok {
+        return Reply::Read(Scored::Refused(fault));
+    }
+    Reply::Unreadable
+}
+
+// A line of `score` or `score2`, which has its query in its last field: field 9 where there are two stages.
+fn reply_score(line: &[u8], last: usize) -> Reply
+    requires { ⌜ last ≤ 9 ⌝ }
+{
     let w = width_at(line, 1);
     let mut q = floats();
-    let x = query_at(line, 8, 2, 7, &mut q);
+    let x = query_at(line, 2, last, &mut q);
+    let m = x.length;
+    if !(w.ok & x.ok) {
+        return Reply::Unreadable;
+    }
+    if last == 9 {
+        return reply_stages(line, w.width, x.fault, &q[0..m]);
+    }
+    reply_stage(line, w.width, x.fault, &q[0..m])
+}
+
+// The stage of a line of `score`, whose query is refused or prepared.
+fn reply_stage(line: &[u8], width: u8, fault: u8, q: &[f32]) -> Reply {
     let mut block = bytes();
     let a = stage_at(line, 5, &mut block);
-    let m = x.length;
     let n = a.length;
-    if !(w.ok && x.ok && a.ok) {
-        return print::put_unreadable(out);
+    if !a.ok | (fault != 0) {
+        return no_answer(a.ok, fault);
     }
-    if x.fault != 0 {
-        return put_refused(out, x.fault);
-    }
-    put_scored(
-        out,
-        score_by_width(w.width, &q[0..m], a.scale, &block[0..n]),
-    )
+    Reply::Read(score_by_width(width, q, a.scale, &block[0..n]))
 }
 
 fn score_by_width(width: u8, q: &[f32], scale: u32, block: &[u8]) -> Scored {
     let n = levels(width);
     let centroids = lloyd::centroids(width);
-    score::score(width, &centroids[0..n], q, scale, block)
-}
-
-fn answer_score2(line: &[u8], out: &mut [u8]) -> usize {
-    let w = width_at(line, 1);
-    let mut q = floats();
-    let x = query_at(line, 10, 2, 9, &mut q);
-    let m = x.length;
-    if !(w.ok && x.ok) {
-        return print::put_unreadable(out);
-    }
-    answer_stages(line, w.width, x.fault, &q[0..m], out)
+    scoring::score(width, &centroids[0..n], q, scale, block)
 }
 
 // Both stages of a line of `score2`, whose query is refused or prepared.
-fn answer_stages(line: &[u8], width: u8, fault: u8, q: &[f32], out: &mut [u8]) -> usize {
+fn reply_stages(line: &[u8], width: u8, fault: u8, q: &[f32]) -> Reply {
     let mut block = bytes();
     let mut block2 = bytes();
     let a = stage_at(line, 5, &mut block);
     let b = stage_at(line, 7, &mut block2);
     let n = a.length;
     let n2 = b.length;
-    if !(a.ok && b.ok) {
-        return print::put_unreadable(out);
+    let ok = a.ok & b.ok;
+    if !ok | (fault != 0) {
+        return no_answer(ok, fault);
     }
-    if fault != 0 {
-        return put_refused(out, fault);
-    }
-    put_scored(
-        out,
-        score2_by_width(width, q, a.scale, &block[0..n], b.scale, &block2[0..n2]),
-    )
+    Reply::Read(score2_by_width(width, q, a.scale, &block[0..n], b.scale, &block2[0..n2]))
 }
 
 fn score2_by_width(
@@ -363,7 +363,15 @@ fn score2_by_width(
 ) -> Scored {
     let n = levels(width);
     let centroids = lloyd::centroids(width);
-    score::score_residual(width, &centroids[0..n], q, scale, block, scale2, block2)
+    scoring::score_residual(width, &centroids[0..n], q, scale, block, scale2, block2)
+}
+
+fn put_reply(out: &mut [u8], r: Reply) -> usize {
+    match r {
+        Reply::Unreadable => print::put_unreadable(out),
+        Reply::Read(s) => put_scored(out, s),
+        Reply::Order(n) => numerals::put_hex(out, 0, n as u64, 1),
+    }
 }
 
 fn put_scored(out: &mut [u8], s: Scored) -> usize {
@@ -378,20 +386,12 @@ fn put_score(out: &mut [u8], x: f32) -> usize {
     put_float(out, at, x)
 }
 
-fn answer_order(line: &[u8], out: &mut [u8]) -> usize {
+fn reply_order(line: &[u8]) -> Reply {
     let p = values::number_at(line, 1, 0xFFFF_FFFF);
-    if text::field_count(line) != 2 {
-        return print::put_unreadable(out);
+    if p.ok & (text::field_count(line) == 2) {
+        return Reply::Order(scoring::order_number(pattern::from_bits(p.value as u32)));
     }
-    if p.ok {
-        return print::put_hex(
-            out,
-            0,
-            score::order_number(pattern::from_bits(p.value as u32)) as u64,
-            1,
-        );
-    }
-    print::put_unreadable(out)
+    Reply::Unreadable
 }
 
 // ---- the fields of a line
@@ -438,12 +438,12 @@ fn header_at(line: &[u8], count: usize) -> Heading {
     let r = values::number_at(line, 2, 1);
     let s = space_at(line, count, 3);
     Heading {
-        ok: w.ok && r.ok && s.ok,
+        ok: w.ok & r.ok & s.ok,
         header: Header {
             dim: s.dim,
-            working: s.working,
+            working_dim: s.working,
             seed: s.seed,
-            width: w.width,
+            bits: w.width,
             residual: r.value == 1,
         },
     }
@@ -452,7 +452,7 @@ fn header_at(line: &[u8], count: usize) -> Heading {
 fn width_at(line: &[u8], i: usize) -> Width {
     let w = values::number_at(line, i, 6);
     Width {
-        ok: w.ok && 4 <= w.value,
+        ok: w.ok & (4 <= w.value),
         width: w.value as u8,
     }
 }
@@ -465,7 +465,7 @@ fn space_at(line: &[u8], count: usize, i: usize) -> Space
     let working = values::number_at(line, i + 1, dim.value);
     let seed = values::number_at(line, i + 2, u64::MAX);
     Space {
-        ok: text::field_count(line) == count && dim.ok && working.ok && seed.ok,
+        ok: (text::field_count(line) == count) & dim.ok & working.ok & seed.ok,
         dim: dim.value as usize,
         working: working.value as usize,
         seed: seed.value,
@@ -480,7 +480,7 @@ fn stage_at(line: &[u8], i: usize, block: &mut [u8]) -> Stage
     let p = values::number_at(line, i, 0xFFFF_FFFF);
     let x = values::bytes_at(line, i + 1, block);
     Stage {
-        ok: p.ok && x.ok,
+        ok: p.ok & x.ok,
         scale: p.value as u32,
         length: x.length,
     }

@@ -26,6 +26,7 @@ use index::Written;
 use lines::Cursor;
 use score::Scored;
 use values::Number;
+use values::Run;
 
 // ---- the program's arrays
 
@@ -106,14 +107,6 @@ fn first_record() -> Index {
         live: 0,
         cascade: false,
     }
-}
-
-// After a line: the record, the lent lengths and whether they are new, and how long the answer in out is.
-struct Answered {
-    index: Index,
-    lent: Lengths,
-    fresh: bool,
-    length: usize,
 }
 
 // What is carried from line to line. `fresh` says that the line lent arrays anew.
@@ -241,9 +234,32 @@ fn turn(
     let cursor = state.cursor;
     let index = state.index;
     let lent = state.lent;
-    let a = answer(
-        lines::line(buf, cursor),
-        cursor.long,
+    let mut vector = entries();
+    let mut file = file_places();
+    let line = lines::line(buf, cursor);
+    let call = read_call(line, cursor.long, &mut vector, &mut file);
+    let parts = lengths_after(call, line, lent);
+    let n = capped(call.count, 17500);
+    let m = capped(call.count, 65536);
+    let query = &vector[0..n];
+    let done = change(
+        call,
+        query,
+        &file[0..m],
+        codes,
+        scales,
+        keys,
+        keyed,
+        held,
+        alive,
+        codes2,
+        scales2,
+        index,
+    );
+    let replied = answer(
+        call,
+        done,
+        query,
         out,
         codes,
         scales,
@@ -254,59 +270,63 @@ fn turn(
         codes2,
         scales2,
         index,
-        lent,
     );
-    print::print_line(out, a.length);
-    let next = a.index;
-    let parts = a.lent;
+    print::print_line(out, replied.length);
+    let next = replied.index;
     State {
         cursor: lines::next_line(buf, cursor),
         index: next,
         lent: parts,
-        fresh: a.fresh,
+        fresh: call.command == 0,
     }
 }
 
-// Puts the answer to a line into out.
-fn answer(
-    line: &[u8],
-    long: bool,
-    out: &mut [u8],
-    codes: &mut [u8],
-    scales: &mut [u32],
-    keys: &mut [u64],
-    keyed: &mut [bool],
-    held: &mut [u32],
-    alive: &mut [u8],
-    codes2: &mut [u8],
-    scales2: &mut [u32],
-    index: Index,
-    lent: Lengths,
-) -> Answered {
-    let c = kind(line, long);
-    if c == 0 {
-        return answer_lend(line, out, index, lent);
+fn capped(n: usize, most: usize) -> usize
+    ensures { λ r. ⌜ (r ≤ n) × (r ≤ most) ⌝ }
+{
+    if n < most {
+        return n;
     }
-    let r = reply(
-        c,
-        line,
-        out,
-        codes,
-        scales,
-        keys,
-        keyed,
-        held,
-        alive,
-        codes2,
-        scales2,
-        index,
-    );
-    let next = r.index;
-    Answered {
-        index: next,
-        lent: lent,
-        fresh: false,
-        length: r.length,
+    most
+}
+
+// ---- what a line asks for
+
+// The number of a line's command, its numbers, and how many entries or bytes come after them; 0 for what the line hasn't.
+struct Call {
+    command: usize,
+    a: u64,
+    b: u64,
+    c: u64,
+    count: usize,
+}
+
+// What a line asks for; its vector or its bytes are read into the lent places. A line that can't be read is one of no command, 26.
+fn read_call(line: &[u8], long: bool, vector: &mut [f32], file: &mut [u8]) -> Call {
+    let c = kind(line, long);
+    let run = read_run(line, c, vector, file);
+    let q = request_of(line, c);
+    let readable = q.ok && run.ok;
+    Call {
+        command: if readable { c } else { 26 },
+        a: q.a,
+        b: q.b,
+        c: q.c,
+        count: run.length,
+    }
+}
+
+// The vector or the bytes of a line.
+fn read_run(line: &[u8], c: usize, vector: &mut [f32], file: &mut [u8]) -> Run {
+    if has_vector(c) {
+        return values::vector_at(line, number_count(c) + 1, vector);
+    }
+    if c == 25 {
+        return values::bytes_at(line, 1, file);
+    }
+    Run {
+        ok: true,
+        length: 0,
     }
 }
 
@@ -328,77 +348,33 @@ fn command(word: &[u8]) -> usize {
     text::word_number(words, word)
 }
 
-fn capped(n: usize, most: usize) -> usize
-    ensures { λ r. ⌜ (r ≤ n) × (r ≤ most) ⌝ }
-{
-    if n < most {
-        return n;
-    }
-    most
-}
-
-// ---- lending
-
-// The arrays are cleared by making them anew.
-fn answer_lend(line: &[u8], out: &mut [u8], index: Index, lent: Lengths) -> Answered {
-    if !are_lengths(line) {
-        return Answered {
-            index: index,
-            lent: lent,
-            fresh: false,
-            length: print::put_unreadable(out),
-        };
-    }
-    Answered {
-        index: index,
-        lent: lengths_of(line),
-        fresh: true,
-        length: print::put_bytes(out, 0, b"ok"),
-    }
-}
-
-// Whether the line has a length for each array, at most what the program holds.
-fn are_lengths(line: &[u8]) -> bool {
-    let first = is_length(line, 1, 1048576)
-        && is_length(line, 2, 4096)
-        && is_length(line, 3, 4096)
-        && is_length(line, 4, 4096);
-    let last = is_length(line, 5, 4096)
-        && is_length(line, 6, 4096)
-        && is_length(line, 7, 1048576)
-        && is_length(line, 8, 4096);
-    first && last && text::field_count(line) == 9
-}
-
-fn is_length(line: &[u8], i: usize, most: u64) -> bool {
-    values::number_at(line, i, most).ok
-}
-
-fn length_at(line: &[u8], i: usize) -> usize {
-    values::number_at(line, i, u64::MAX).value as usize
-}
-
-fn lengths_of(line: &[u8]) -> Lengths {
-    Lengths {
-        codes: length_at(line, 1),
-        scales: length_at(line, 2),
-        keys: length_at(line, 3),
-        keyed: length_at(line, 4),
-        held: length_at(line, 5),
-        alive: length_at(line, 6),
-        codes2: length_at(line, 7),
-        scales2: length_at(line, 8),
-    }
-}
-
-// ---- what a line brings
-
-// Whether it can be read, and its numbers; 0 for one that it hasn't.
+// Whether a line's numbers can be read, and they; 0 for one that it hasn't.
 struct Request {
     ok: bool,
     a: u64,
     b: u64,
     c: u64,
+}
+
+// The fields of `lend`, `set` and `field` are not all numbers of a call; a line of command 26 or 27 has none.
+fn request_of(line: &[u8], c: usize) -> Request {
+    match c {
+        0 => plain_request(are_lengths(line)),
+        1 => poke_of(line),
+        2 => field_of(line),
+        26 => plain_request(false),
+        27 => plain_request(true),
+        _ => numbers_of(line, c),
+    }
+}
+
+fn plain_request(ok: bool) -> Request {
+    Request {
+        ok: ok,
+        a: 0,
+        b: 0,
+        c: 0,
+    }
 }
 
 // How many numbers a line of the command has.
@@ -463,242 +439,354 @@ fn argument(line: &[u8], i: usize, n: usize, most: u64) -> Number {
     values::number_at(line, i, most)
 }
 
-fn request_of(line: &[u8], c: usize) -> Request {
+fn numbers_of(line: &[u8], c: usize) -> Request {
     let n = number_count(c);
     let x = argument(line, 1, n, greatest(c, 1));
     let y = argument(line, 2, n, greatest(c, 2));
     let z = argument(line, 3, n, greatest(c, 3));
     Request {
-        ok: x.ok && y.ok && z.ok && text::field_count(line) == field_total(c) && c < 26,
+        ok: x.ok && y.ok && z.ok && text::field_count(line) == field_total(c),
         a: x.value,
         b: y.value,
         c: z.value,
     }
 }
 
-// ---- replies
+fn array_number(name: &[u8]) -> usize {
+    text::word_number(b"codes scales keys keyed held alive codes2 scales2", name)
+}
 
-// After a call: the record, and how long the reply in out is.
+// What `set` sets: the number of an array, a place and a value.
+fn poke_of(line: &[u8]) -> Request {
+    let array = array_number(text::field(line, 1));
+    let i = values::number_at(line, 2, u64::MAX);
+    let x = values::number_at(line, 3, u64::MAX);
+    Request {
+        ok: i.ok && x.ok && text::field_count(line) == 4 && array < 8,
+        a: array as u64,
+        b: i.value,
+        c: x.value,
+    }
+}
+
+// What `field` sets: the number of a field, and a value that its type holds.
+fn field_of(line: &[u8]) -> Request {
+    let words = b"dim working_dim seed bits residual n live cascade";
+    let field = text::word_number(words, text::field(line, 1));
+    let x = values::number_at(line, 2, greatest_of(field));
+    Request {
+        ok: x.ok && text::field_count(line) == 3 && field < 8,
+        a: field as u64,
+        b: x.value,
+        c: 0,
+    }
+}
+
+// The greatest value that a field's type holds.
+fn greatest_of(field: usize) -> u64 {
+    match field {
+        3 => 0xFF,
+        4 | 7 => 1,
+        _ => u64::MAX,
+    }
+}
+
+// ---- lending
+
+// The lent lengths after a line: those that it names, where it lends arrays anew.
+fn lengths_after(call: Call, line: &[u8], lent: Lengths) -> Lengths {
+    if call.command == 0 {
+        return lengths_of(line);
+    }
+    lent
+}
+
+// Whether the line has a length for each array, at most what the program holds.
+fn are_lengths(line: &[u8]) -> bool {
+    let first = is_length(line, 1, 1048576)
+        && is_length(line, 2, 4096)
+        && is_length(line, 3, 4096)
+        && is_length(line, 4, 4096);
+    let last = is_length(line, 5, 4096)
+        && is_length(line, 6, 4096)
+        && is_length(line, 7, 1048576)
+        && is_length(line, 8, 4096);
+    first && last && text::field_count(line) == 9
+}
+
+fn is_length(line: &[u8], i: usize, most: u64) -> bool {
+    values::number_at(line, i, most).ok
+}
+
+fn length_at(line: &[u8], i: usize) -> usize {
+    values::number_at(line, i, u64::MAX).value as usize
+}
+
+fn lengths_of(line: &[u8]) -> Lengths {
+    Lengths {
+        codes: length_at(line, 1),
+        scales: length_at(line, 2),
+        keys: length_at(line, 3),
+        keyed: length_at(line, 4),
+        held: length_at(line, 5),
+        alive: length_at(line, 6),
+        codes2: length_at(line, 7),
+        scales2: length_at(line, 8),
+    }
+}
+
+// ---- changes
+
+// What a change answered, by the kind of its call.
+enum Done {
+    Nothing,
+    Element(bool),
+    Record(Made),
+    Marks(Changed),
+    Slot(Added),
+}
+
+// The calls that change the arrays; no other line does. They all start here, since to prove that arrays are passed on to be changed takes longest.
+fn change(
+    call: Call,
+    vector: &[f32],
+    file: &[u8],
+    codes: &mut [u8],
+    scales: &mut [u32],
+    keys: &mut [u64],
+    keyed: &mut [bool],
+    held: &mut [u32],
+    alive: &mut [u8],
+    codes2: &mut [u8],
+    scales2: &mut [u32],
+    index: Index,
+) -> Done {
+    let command = call.command;
+    match command {
+        1 => Done::Element(set_element(
+            codes,
+            scales,
+            keys,
+            keyed,
+            held,
+            alive,
+            codes2,
+            scales2,
+            call,
+        )),
+        9 => Done::Record(compact::compact(
+            index,
+            codes,
+            scales,
+            keys,
+            keyed,
+            held,
+            alive,
+            codes2,
+            scales2,
+        )),
+        10 | 11 | 12 => Done::Marks(change_marks(
+            call,
+            codes,
+            scales,
+            keys,
+            keyed,
+            held,
+            alive,
+            codes2,
+            scales2,
+            index,
+        )),
+        16 => Done::Slot(add::add(
+            index,
+            codes,
+            scales,
+            keys,
+            keyed,
+            held,
+            alive,
+            codes2,
+            scales2,
+            vector,
+        )),
+        17 => Done::Slot(add::add_keyed(
+            index,
+            codes,
+            scales,
+            keys,
+            keyed,
+            held,
+            alive,
+            codes2,
+            scales2,
+            call.a,
+            vector,
+        )),
+        18 => Done::Slot(add::add_keyed_multi(
+            index,
+            codes,
+            scales,
+            keys,
+            keyed,
+            held,
+            alive,
+            codes2,
+            scales2,
+            call.a,
+            vector,
+        )),
+        25 => Done::Record(read::from_bytes(
+            codes,
+            scales,
+            keys,
+            keyed,
+            held,
+            alive,
+            codes2,
+            scales2,
+            file,
+        )),
+        _ => Done::Nothing,
+    }
+}
+
+// Relabelling and the removals, which leave codes and scales alone.
+fn change_marks(
+    call: Call,
+    codes: &[u8],
+    scales: &[u32],
+    keys: &mut [u64],
+    keyed: &mut [bool],
+    held: &mut [u32],
+    alive: &mut [u8],
+    codes2: &[u8],
+    scales2: &[u32],
+    index: Index,
+) -> Changed {
+    let command = call.command;
+    match command {
+        10 => relabel::relabel(
+            index,
+            codes,
+            scales,
+            keys,
+            keyed,
+            held,
+            alive,
+            codes2,
+            scales2,
+            call.a,
+            call.b,
+        ),
+        11 => removal::remove_keyed(
+            index,
+            codes,
+            scales,
+            keys,
+            keyed,
+            held,
+            alive,
+            codes2,
+            scales2,
+            call.a,
+        ),
+        _ => removal::remove_keyed_at(
+            index,
+            codes,
+            scales,
+            keys,
+            keyed,
+            held,
+            alive,
+            codes2,
+            scales2,
+            call.a,
+            call.b as usize,
+        ),
+    }
+}
+
+// Sets an element, where the array has it and its type holds the value.
+fn set_element(
+    codes: &mut [u8],
+    scales: &mut [u32],
+    keys: &mut [u64],
+    keyed: &mut [bool],
+    held: &mut [u32],
+    alive: &mut [u8],
+    codes2: &mut [u8],
+    scales2: &mut [u32],
+    call: Call,
+) -> bool {
+    let array = call.a;
+    let i = call.b as usize;
+    let x = call.c;
+    match array {
+        0 => poke_byte(codes, i, x),
+        1 => poke_word(scales, i, x),
+        2 => poke_key(keys, i, x),
+        3 => poke_flag(keyed, i, x),
+        4 => poke_word(held, i, x),
+        5 => poke_byte(alive, i, x),
+        6 => poke_byte(codes2, i, x),
+        _ => poke_word(scales2, i, x),
+    }
+}
+
+fn poke_byte(xs: &mut [u8], i: usize, x: u64) -> bool {
+    if xs.len() <= i {
+        return false;
+    }
+    if 0xFF < x {
+        return false;
+    }
+    xs[i] = x as u8;
+    true
+}
+
+fn poke_word(xs: &mut [u32], i: usize, x: u64) -> bool {
+    if xs.len() <= i {
+        return false;
+    }
+    if 0xFFFF_FFFF < x {
+        return false;
+    }
+    xs[i] = x as u32;
+    true
+}
+
+fn poke_key(xs: &mut [u64], i: usize, x: u64) -> bool {
+    if xs.len() <= i {
+        return false;
+    }
+    xs[i] = x;
+    true
+}
+
+fn poke_flag(xs: &mut [bool], i: usize, x: u64) -> bool {
+    if xs.len() <= i {
+        return false;
+    }
+    if 1 < x {
+        return false;
+    }
+    xs[i] = x == 1;
+    true
+}
+
+// ---- questions
+
+// After a line: the record, and how long the answer in out is.
 struct Replied {
     index: Index,
     length: usize,
 }
 
-fn reply(
-    c: usize,
-    line: &[u8],
-    out: &mut [u8],
-    codes: &mut [u8],
-    scales: &mut [u32],
-    keys: &mut [u64],
-    keyed: &mut [bool],
-    held: &mut [u32],
-    alive: &mut [u8],
-    codes2: &mut [u8],
-    scales2: &mut [u32],
-    index: Index,
-) -> Replied {
-    if c == 1 {
-        return reply_set(
-            line,
-            out,
-            codes,
-            scales,
-            keys,
-            keyed,
-            held,
-            alive,
-            codes2,
-            scales2,
-            index,
-        );
-    }
-    if c == 2 {
-        return reply_field(line, out, index);
-    }
-    if c == 27 {
-        return Replied {
-            index: index,
-            length: 0,
-        };
-    }
-    let q = request_of(line, c);
-    if !q.ok {
-        return unreadable(out, index);
-    }
-    if c == 25 {
-        return reply_read(
-            line,
-            out,
-            codes,
-            scales,
-            keys,
-            keyed,
-            held,
-            alive,
-            codes2,
-            scales2,
-            index,
-        );
-    }
-    if has_vector(c) {
-        return reply_vector(
-            c,
-            line,
-            q,
-            out,
-            codes,
-            scales,
-            keys,
-            keyed,
-            held,
-            alive,
-            codes2,
-            scales2,
-            index,
-        );
-    }
-    reply_call(
-        c,
-        q,
-        out,
-        codes,
-        scales,
-        keys,
-        keyed,
-        held,
-        alive,
-        codes2,
-        scales2,
-        index,
-    )
-}
-
-fn reply_read(
-    line: &[u8],
-    out: &mut [u8],
-    codes: &mut [u8],
-    scales: &mut [u32],
-    keys: &mut [u64],
-    keyed: &mut [bool],
-    held: &mut [u32],
-    alive: &mut [u8],
-    codes2: &mut [u8],
-    scales2: &mut [u32],
-    index: Index,
-) -> Replied {
-    let mut file = file_places();
-    let run = values::bytes_at(line, 1, &mut file);
-    if !run.ok {
-        return unreadable(out, index);
-    }
-    let n = run.length;
-    put_made(
-        out,
-        read::from_bytes(
-            codes,
-            scales,
-            keys,
-            keyed,
-            held,
-            alive,
-            codes2,
-            scales2,
-            &file[0..n],
-        ),
-        index,
-    )
-}
-
-fn reply_call(
-    c: usize,
-    q: Request,
-    out: &mut [u8],
-    codes: &mut [u8],
-    scales: &mut [u32],
-    keys: &mut [u64],
-    keyed: &mut [bool],
-    held: &mut [u32],
-    alive: &mut [u8],
-    codes2: &mut [u8],
-    scales2: &mut [u32],
-    index: Index,
-) -> Replied {
-    if c < 9 {
-        return reply_record(
-            c,
-            q,
-            out,
-            codes,
-            scales,
-            keys,
-            keyed,
-            held,
-            alive,
-            codes2,
-            scales2,
-            index,
-        );
-    }
-    if c == 9 {
-        return put_made(
-            out,
-            compact::compact(
-                index,
-                codes,
-                scales,
-                keys,
-                keyed,
-                held,
-                alive,
-                codes2,
-                scales2,
-            ),
-            index,
-        );
-    }
-    if c < 13 {
-        return put_changed(
-            out,
-            change_marks(
-                c,
-                q,
-                codes,
-                scales,
-                keys,
-                keyed,
-                held,
-                alive,
-                codes2,
-                scales2,
-                index,
-            ),
-            index,
-        );
-    }
-    Replied {
-        index: index,
-        length: ask(
-            c,
-            q,
-            out,
-            codes,
-            scales,
-            keys,
-            keyed,
-            held,
-            alive,
-            codes2,
-            scales2,
-            index,
-        ),
-    }
-}
-
-// Prints all there is, or makes or sets a record.
-fn reply_record(
-    c: usize,
-    q: Request,
+// Puts the answer to a line into out, after what the line changed.
+fn answer(
+    call: Call,
+    done: Done,
+    vector: &[f32],
     out: &mut [u8],
     codes: &[u8],
     scales: &[u32],
@@ -710,43 +798,208 @@ fn reply_record(
     scales2: &[u32],
     index: Index,
 ) -> Replied {
-    if c == 3 {
-        return dump(
+    let command = call.command;
+    match command {
+        3 => Replied {
+            index: index,
+            length: dump(
+                out,
+                codes,
+                scales,
+                keys,
+                keyed,
+                held,
+                alive,
+                codes2,
+                scales2,
+                index,
+            ),
+        },
+        20 | 22 => Replied {
+            index: index,
+            length: list_slots(
+                call,
+                vector,
+                out,
+                codes,
+                scales,
+                keys,
+                keyed,
+                held,
+                alive,
+                codes2,
+                scales2,
+                index,
+            ),
+        },
+        21 => Replied {
+            index: index,
+            length: list_keys(
+                call,
+                vector,
+                out,
+                codes,
+                scales,
+                keys,
+                keyed,
+                held,
+                alive,
+                codes2,
+                scales2,
+                index,
+            ),
+        },
+        24 => Replied {
+            index: index,
+            length: write_file(
+                call,
+                out,
+                codes,
+                scales,
+                keys,
+                keyed,
+                held,
+                alive,
+                codes2,
+                scales2,
+                index,
+            ),
+        },
+        _ => put_outcome(
             out,
-            codes,
-            scales,
-            keys,
-            keyed,
-            held,
-            alive,
-            codes2,
-            scales2,
-            index,
-        );
+            ask(
+                call,
+                done,
+                vector,
+                codes,
+                scales,
+                keys,
+                keyed,
+                held,
+                alive,
+                codes2,
+                scales2,
+                index,
+            ),
+        ),
     }
-    put_made(
-        out,
-        make_or_set(
-            c,
-            q,
-            codes,
-            scales,
-            keys,
-            keyed,
-            held,
-            alive,
-            codes2,
-            scales2,
+}
+
+// The calls that are answered in a word or two and only read the arrays. Any other line says what it did.
+fn ask(
+    call: Call,
+    done: Done,
+    vector: &[f32],
+    codes: &[u8],
+    scales: &[u32],
+    keys: &[u64],
+    keyed: &[bool],
+    held: &[u32],
+    alive: &[u8],
+    codes2: &[u8],
+    scales2: &[u32],
+    index: Index,
+) -> Outcome {
+    let command = call.command;
+    match command {
+        4 | 5 | 6 | 7 | 8 => after_made(
+            make_or_set(
+                call,
+                codes,
+                scales,
+                keys,
+                keyed,
+                held,
+                alive,
+                codes2,
+                scales2,
+                index,
+            ),
             index,
         ),
-        index,
-    )
+        13 => Outcome {
+            index: index,
+            reply: of_key(keys::key_of(
+                index,
+                codes,
+                scales,
+                keys,
+                keyed,
+                held,
+                alive,
+                codes2,
+                scales2,
+                call.a as usize,
+            )),
+        },
+        14 => Outcome {
+            index: index,
+            reply: of_asked(keys::contains_key(
+                index,
+                codes,
+                scales,
+                keys,
+                keyed,
+                held,
+                alive,
+                codes2,
+                scales2,
+                call.a,
+            )),
+        },
+        15 => Outcome {
+            index: index,
+            reply: of_held(keys::slot_at(
+                index,
+                codes,
+                scales,
+                keys,
+                keyed,
+                held,
+                alive,
+                codes2,
+                scales2,
+                call.a,
+                call.b as usize,
+            )),
+        },
+        19 => Outcome {
+            index: index,
+            reply: of_score(score_slot::score(
+                index,
+                codes,
+                scales,
+                keys,
+                keyed,
+                held,
+                alive,
+                codes2,
+                scales2,
+                call.a as usize,
+                vector,
+            )),
+        },
+        23 => Outcome {
+            index: index,
+            reply: of_length(layout::file_length(
+                index,
+                codes,
+                scales,
+                keys,
+                keyed,
+                held,
+                alive,
+                codes2,
+                scales2,
+            )),
+        },
+        _ => after(call, done, index),
+    }
 }
 
 // The calls that make or set a record, and only read the arrays.
 fn make_or_set(
-    c: usize,
-    q: Request,
+    call: Call,
     codes: &[u8],
     scales: &[u32],
     keys: &[u64],
@@ -757,10 +1010,11 @@ fn make_or_set(
     scales2: &[u32],
     index: Index,
 ) -> Made {
-    if c == 4 {
+    let command = call.command;
+    if command == 4 {
         return make::new(
-            q.a as usize,
-            q.b,
+            call.a as usize,
+            call.b,
             codes,
             scales,
             keys,
@@ -771,11 +1025,11 @@ fn make_or_set(
             scales2,
         );
     }
-    if c == 5 {
+    if command == 5 {
         return make::with_working_dim(
-            q.a as usize,
-            q.b as usize,
-            q.c,
+            call.a as usize,
+            call.b as usize,
+            call.c,
             codes,
             scales,
             keys,
@@ -786,10 +1040,10 @@ fn make_or_set(
             scales2,
         );
     }
-    if c == 6 {
+    if command == 6 {
         return make::with_residual(
-            q.a as usize,
-            q.b,
+            call.a as usize,
+            call.b,
             codes,
             scales,
             keys,
@@ -800,8 +1054,8 @@ fn make_or_set(
             scales2,
         );
     }
-    if c == 7 {
-        return make::set_bits(
+    if command == 7 {
+        return settings::set_bits(
             index,
             codes,
             scales,
@@ -811,10 +1065,10 @@ fn make_or_set(
             alive,
             codes2,
             scales2,
-            low_byte(q.a),
+            low_byte(call.a),
         );
     }
-    make::enable_cascade(
+    settings::enable_cascade(
         index,
         codes,
         scales,
@@ -831,346 +1085,45 @@ fn low_byte(n: u64) -> u8 {
     (n % 256) as u8
 }
 
-fn change_marks(
-    c: usize,
-    q: Request,
-    codes: &mut [u8],
-    scales: &mut [u32],
-    keys: &mut [u64],
-    keyed: &mut [bool],
-    held: &mut [u32],
-    alive: &mut [u8],
-    codes2: &mut [u8],
-    scales2: &mut [u32],
-    index: Index,
-) -> Changed {
-    if c == 10 {
-        return relabel::relabel(
-            index,
-            codes,
-            scales,
-            keys,
-            keyed,
-            held,
-            alive,
-            codes2,
-            scales2,
-            q.a,
-            q.b,
-        );
+fn of_key(key: Keyed) -> Reply {
+    match key {
+        Keyed::Key(k) => Reply::Key(k),
+        Keyed::None => Reply::None,
+        Keyed::Refused(n) => Reply::Refused(n),
     }
-    if c == 11 {
-        return relabel::remove_keyed(
-            index,
-            codes,
-            scales,
-            keys,
-            keyed,
-            held,
-            alive,
-            codes2,
-            scales2,
-            q.a,
-        );
-    }
-    relabel::remove_keyed_at(
-        index,
-        codes,
-        scales,
-        keys,
-        keyed,
-        held,
-        alive,
-        codes2,
-        scales2,
-        q.a,
-        q.b as usize,
-    )
 }
 
-fn ask(
-    c: usize,
-    q: Request,
-    out: &mut [u8],
-    codes: &[u8],
-    scales: &[u32],
-    keys: &[u64],
-    keyed: &[bool],
-    held: &[u32],
-    alive: &[u8],
-    codes2: &[u8],
-    scales2: &[u32],
-    index: Index,
-) -> usize {
-    if c == 13 {
-        return put_key(
-            out,
-            keys::key_of(
-                index,
-                codes,
-                scales,
-                keys,
-                keyed,
-                held,
-                alive,
-                codes2,
-                scales2,
-                q.a as usize,
-            ),
-        );
+fn of_asked(asked: Asked) -> Reply {
+    match asked {
+        Asked::Yes => Reply::Yes,
+        Asked::No => Reply::No,
+        Asked::Refused(n) => Reply::Refused(n),
     }
-    if c == 14 {
-        return put_asked(
-            out,
-            keys::contains_key(
-                index,
-                codes,
-                scales,
-                keys,
-                keyed,
-                held,
-                alive,
-                codes2,
-                scales2,
-                q.a,
-            ),
-        );
-    }
-    if c == 23 {
-        return put_length(
-            out,
-            layout::file_length(
-                index,
-                codes,
-                scales,
-                keys,
-                keyed,
-                held,
-                alive,
-                codes2,
-                scales2,
-            ),
-        );
-    }
-    if c == 24 {
-        return write_file(
-            q,
-            out,
-            codes,
-            scales,
-            keys,
-            keyed,
-            held,
-            alive,
-            codes2,
-            scales2,
-            index,
-        );
-    }
-    put_held(
-        out,
-        keys::slot_at(
-            index,
-            codes,
-            scales,
-            keys,
-            keyed,
-            held,
-            alive,
-            codes2,
-            scales2,
-            q.a,
-            q.b as usize,
-        ),
-    )
 }
 
-fn reply_vector(
-    c: usize,
-    line: &[u8],
-    q: Request,
-    out: &mut [u8],
-    codes: &mut [u8],
-    scales: &mut [u32],
-    keys: &mut [u64],
-    keyed: &mut [bool],
-    held: &mut [u32],
-    alive: &mut [u8],
-    codes2: &mut [u8],
-    scales2: &mut [u32],
-    index: Index,
-) -> Replied {
-    let mut v = entries();
-    let run = values::vector_at(line, number_count(c) + 1, &mut v);
-    if !run.ok {
-        return unreadable(out, index);
+fn of_held(held: Held) -> Reply {
+    match held {
+        Held::Slot(i) => Reply::Slot(i),
+        Held::None => Reply::None,
+        Held::Refused(n) => Reply::Refused(n),
     }
-    let n = run.length;
-    if 18 < c {
-        return Replied {
-            index: index,
-            length: look_up(
-                c,
-                q,
-                &v[0..n],
-                out,
-                codes,
-                scales,
-                keys,
-                keyed,
-                held,
-                alive,
-                codes2,
-                scales2,
-                index,
-            ),
-        };
-    }
-    put_added(
-        out,
-        add_vector(
-            c,
-            q.a,
-            &v[0..n],
-            codes,
-            scales,
-            keys,
-            keyed,
-            held,
-            alive,
-            codes2,
-            scales2,
-            index,
-        ),
-        index,
-    )
 }
 
-fn add_vector(
-    c: usize,
-    key: u64,
-    v: &[f32],
-    codes: &mut [u8],
-    scales: &mut [u32],
-    keys: &mut [u64],
-    keyed: &mut [bool],
-    held: &mut [u32],
-    alive: &mut [u8],
-    codes2: &mut [u8],
-    scales2: &mut [u32],
-    index: Index,
-) -> Added {
-    if c == 16 {
-        return add::add(
-            index,
-            codes,
-            scales,
-            keys,
-            keyed,
-            held,
-            alive,
-            codes2,
-            scales2,
-            v,
-        );
+fn of_score(scored: Scored) -> Reply {
+    match scored {
+        Scored::Score(x) => Reply::Score(pattern::to_bits(x)),
+        Scored::Refused(n) => Reply::Refused(n),
     }
-    if c == 17 {
-        return add::add_keyed(
-            index,
-            codes,
-            scales,
-            keys,
-            keyed,
-            held,
-            alive,
-            codes2,
-            scales2,
-            key,
-            v,
-        );
-    }
-    add::add_keyed_multi(
-        index,
-        codes,
-        scales,
-        keys,
-        keyed,
-        held,
-        alive,
-        codes2,
-        scales2,
-        key,
-        v,
-    )
 }
 
-// ---- look-up
-
-fn look_up(
-    c: usize,
-    q: Request,
-    v: &[f32],
-    out: &mut [u8],
-    codes: &[u8],
-    scales: &[u32],
-    keys: &[u64],
-    keyed: &[bool],
-    held: &[u32],
-    alive: &[u8],
-    codes2: &[u8],
-    scales2: &[u32],
-    index: Index,
-) -> usize {
-    if c == 19 {
-        return put_score(
-            out,
-            score_slot::score(
-                index,
-                codes,
-                scales,
-                keys,
-                keyed,
-                held,
-                alive,
-                codes2,
-                scales2,
-                q.a as usize,
-                v,
-            ),
-        );
+fn of_length(length: Written) -> Reply {
+    match length {
+        Written::Bytes(n) => Reply::Length(n),
+        Written::Refused(n) => Reply::Refused(n),
     }
-    if c == 21 {
-        return list_keys(
-            q,
-            v,
-            out,
-            codes,
-            scales,
-            keys,
-            keyed,
-            held,
-            alive,
-            codes2,
-            scales2,
-            index,
-        );
-    }
-    list_slots(
-        c,
-        q,
-        v,
-        out,
-        codes,
-        scales,
-        keys,
-        keyed,
-        held,
-        alive,
-        codes2,
-        scales2,
-        index,
-    )
 }
+
+// ---- lists and files
 
 // Places for results. Each holds a mark, by which a change is seen.
 fn slot_places() -> [u32; 4096] {
@@ -1225,9 +1178,8 @@ fn put_slots(out: &mut [u8], found: Found, slots: &[u32], scores: &[f32]) -> usi
 }
 
 fn list_slots(
-    c: usize,
-    q: Request,
-    v: &[f32],
+    call: Call,
+    vector: &[f32],
     out: &mut [u8],
     codes: &[u8],
     scales: &[u32],
@@ -1241,11 +1193,10 @@ fn list_slots(
 ) -> usize {
     let mut slots = slot_places();
     let mut scores = score_places();
-    let n = capped(places(c, q), 4096);
+    let n = capped(places(call), 4096);
     search_slots(
-        c,
-        q,
-        v,
+        call,
+        vector,
         out,
         codes,
         scales,
@@ -1262,9 +1213,8 @@ fn list_slots(
 }
 
 fn search_slots(
-    c: usize,
-    q: Request,
-    v: &[f32],
+    call: Call,
+    vector: &[f32],
     out: &mut [u8],
     codes: &[u8],
     scales: &[u32],
@@ -1278,7 +1228,7 @@ fn search_slots(
     slots: &mut [u32],
     scores: &mut [f32],
 ) -> usize {
-    if c == 20 {
+    if call.command == 20 {
         let found = search::search(
             index,
             codes,
@@ -1289,8 +1239,8 @@ fn search_slots(
             alive,
             codes2,
             scales2,
-            v,
-            q.a as usize,
+            vector,
+            call.a as usize,
             slots,
             scores,
         );
@@ -1306,9 +1256,9 @@ fn search_slots(
         alive,
         codes2,
         scales2,
-        v,
-        q.a as usize,
-        q.b as usize,
+        vector,
+        call.a as usize,
+        call.b as usize,
         slots,
         scores,
     );
@@ -1316,8 +1266,8 @@ fn search_slots(
 }
 
 fn list_keys(
-    q: Request,
-    v: &[f32],
+    call: Call,
+    vector: &[f32],
     out: &mut [u8],
     codes: &[u8],
     scales: &[u32],
@@ -1331,10 +1281,10 @@ fn list_keys(
 ) -> usize {
     let mut names = key_places();
     let mut scores = score_places();
-    let n = capped(q.b as usize, 4096);
+    let n = capped(call.b as usize, 4096);
     search_keys(
-        q,
-        v,
+        call,
+        vector,
         out,
         codes,
         scales,
@@ -1351,8 +1301,8 @@ fn list_keys(
 }
 
 fn search_keys(
-    q: Request,
-    v: &[f32],
+    call: Call,
+    vector: &[f32],
     out: &mut [u8],
     codes: &[u8],
     scales: &[u32],
@@ -1376,8 +1326,8 @@ fn search_keys(
         alive,
         codes2,
         scales2,
-        v,
-        q.a as usize,
+        vector,
+        call.a as usize,
         names,
         scores,
     );
@@ -1385,7 +1335,7 @@ fn search_keys(
 }
 
 fn write_file(
-    q: Request,
+    call: Call,
     out: &mut [u8],
     codes: &[u8],
     scales: &[u32],
@@ -1398,7 +1348,7 @@ fn write_file(
     index: Index,
 ) -> usize {
     let mut file = file_places();
-    let n = capped(q.a as usize, 65536);
+    let n = capped(call.a as usize, 65536);
     write_into(
         out,
         codes,
@@ -1442,101 +1392,183 @@ fn write_into(
     put_file(out, written, file)
 }
 
+// How many places a line of the command lends.
+fn places(call: Call) -> usize {
+    if call.command == 22 {
+        return call.c as usize;
+    }
+    call.b as usize
+}
+
 // ---- answers in words
 
-fn unreadable(out: &mut [u8], index: Index) -> Replied {
+// What a call answers in a word or two.
+enum Reply {
+    Unreadable,
+    Silent,
+    Ok,
+    Yes,
+    No,
+    None,
+    Slot(usize),
+    Key(u64),
+    Length(usize),
+    Score(u32),
+    Refused(u8),
+}
+
+// After a call: the record, and what it answered.
+struct Outcome {
+    index: Index,
+    reply: Reply,
+}
+
+// What a line did that asked nothing of the arrays.
+fn after(call: Call, done: Done, index: Index) -> Outcome {
+    match done {
+        Done::Nothing => without_arrays(call, index),
+        Done::Element(x) => after_set(x, index),
+        Done::Record(x) => after_made(x, index),
+        Done::Marks(x) => after_changed(x, index),
+        Done::Slot(x) => after_added(x, index),
+    }
+}
+
+// A line that no array has a part in.
+fn without_arrays(call: Call, index: Index) -> Outcome {
+    let command = call.command;
+    match command {
+        0 => Outcome {
+            index: index,
+            reply: Reply::Ok,
+        },
+        2 => Outcome {
+            index: with_field(index, call.a, call.b),
+            reply: Reply::Ok,
+        },
+        27 => Outcome {
+            index: index,
+            reply: Reply::Silent,
+        },
+        _ => Outcome {
+            index: index,
+            reply: Reply::Unreadable,
+        },
+    }
+}
+
+fn with_field(index: Index, field: u64, x: u64) -> Index {
+    let mut y = index;
+    match field {
+        0 => y.dim = x as usize,
+        1 => y.working_dim = x as usize,
+        2 => y.seed = x,
+        3 => y.bits = low_byte(x),
+        4 => y.residual = x == 1,
+        5 => y.n = x as usize,
+        6 => y.live = x as usize,
+        _ => y.cascade = x == 1,
+    }
+    y
+}
+
+fn after_set(done: bool, index: Index) -> Outcome {
+    if !done {
+        return Outcome {
+            index: index,
+            reply: Reply::Unreadable,
+        };
+    }
+    Outcome {
+        index: index,
+        reply: Reply::Ok,
+    }
+}
+
+fn after_made(made: Made, index: Index) -> Outcome {
+    match made {
+        Made::Index(x) => Outcome {
+            index: x,
+            reply: Reply::Ok,
+        },
+        Made::Refused(n) => Outcome {
+            index: index,
+            reply: Reply::Refused(n),
+        },
+    }
+}
+
+fn after_changed(changed: Changed, index: Index) -> Outcome {
+    match changed {
+        Changed::Yes(x) => Outcome {
+            index: x,
+            reply: Reply::Yes,
+        },
+        Changed::No => Outcome {
+            index: index,
+            reply: Reply::No,
+        },
+        Changed::Refused(n) => Outcome {
+            index: index,
+            reply: Reply::Refused(n),
+        },
+    }
+}
+
+fn after_added(added: Added, index: Index) -> Outcome {
+    match added {
+        Added::Slot(i, x) => Outcome {
+            index: x,
+            reply: Reply::Slot(i),
+        },
+        Added::Refused(n) => Outcome {
+            index: index,
+            reply: Reply::Refused(n),
+        },
+    }
+}
+
+fn put_outcome(out: &mut [u8], outcome: Outcome) -> Replied {
+    let index = outcome.index;
+    let reply = outcome.reply;
     Replied {
         index: index,
-        length: print::put_unreadable(out),
+        length: put_reply(out, reply),
     }
+}
+
+fn put_reply(out: &mut [u8], reply: Reply) -> usize {
+    match reply {
+        Reply::Slot(i) => put_with(out, b"slot ", i as u64, 1),
+        Reply::Key(k) => put_with(out, b"key ", k, 1),
+        Reply::Length(n) => put_with(out, b"length ", n as u64, 1),
+        Reply::Score(x) => put_with(out, b"score ", x as u64, 8),
+        Reply::Refused(n) => put_refused(out, 0, n),
+        _ => put_word(out, reply),
+    }
+}
+
+// A reply without a number.
+fn put_word(out: &mut [u8], reply: Reply) -> usize {
+    match reply {
+        Reply::Silent => 0,
+        Reply::Ok => print::put_bytes(out, 0, b"ok"),
+        Reply::Yes => print::put_bytes(out, 0, b"yes"),
+        Reply::No => print::put_bytes(out, 0, b"no"),
+        Reply::None => print::put_bytes(out, 0, b"none"),
+        _ => print::put_unreadable(out),
+    }
+}
+
+// A word and a number, in so many digits at least.
+fn put_with(out: &mut [u8], word: &[u8], number: u64, digits: usize) -> usize {
+    let at = print::put_bytes(out, 0, word);
+    numerals::put_hex(out, at, number, digits)
 }
 
 fn put_refused(out: &mut [u8], at: usize, number: u8) -> usize {
     let next = print::put_bytes(out, at, b"refused ");
-    print::put_decimal(out, next, number as u64)
-}
-
-// A word and a number.
-fn put_with(out: &mut [u8], word: &[u8], number: u64) -> usize {
-    let at = print::put_bytes(out, 0, word);
-    print::put_hex(out, at, number, 1)
-}
-
-fn put_made(out: &mut [u8], made: Made, index: Index) -> Replied {
-    match made {
-        Made::Index(x) => Replied {
-            index: x,
-            length: print::put_bytes(out, 0, b"ok"),
-        },
-        Made::Refused(n) => Replied {
-            index: index,
-            length: put_refused(out, 0, n),
-        },
-    }
-}
-
-fn put_changed(out: &mut [u8], changed: Changed, index: Index) -> Replied {
-    match changed {
-        Changed::Yes(x) => Replied {
-            index: x,
-            length: print::put_bytes(out, 0, b"yes"),
-        },
-        Changed::No => Replied {
-            index: index,
-            length: print::put_bytes(out, 0, b"no"),
-        },
-        Changed::Refused(n) => Replied {
-            index: index,
-            length: put_refused(out, 0, n),
-        },
-    }
-}
-
-fn put_added(out: &mut [u8], added: Added, index: Index) -> Replied {
-    match added {
-        Added::Slot(i, x) => Replied {
-            index: x,
-            length: put_with(out, b"slot ", i as u64),
-        },
-        Added::Refused(n) => Replied {
-            index: index,
-            length: put_refused(out, 0, n),
-        },
-    }
-}
-
-fn put_key(out: &mut [u8], key: Keyed) -> usize {
-    match key {
-        Keyed::Key(k) => put_with(out, b"key ", k),
-        Keyed::None => print::put_bytes(out, 0, b"none"),
-        Keyed::Refused(n) => put_refused(out, 0, n),
-    }
-}
-
-fn put_asked(out: &mut [u8], asked: Asked) -> usize {
-    match asked {
-        Asked::Yes => print::put_bytes(out, 0, b"yes"),
-        Asked::No => print::put_bytes(out, 0, b"no"),
-        Asked::Refused(n) => put_refused(out, 0, n),
-    }
-}
-
-fn put_score(out: &mut [u8], scored: Scored) -> usize {
-    match scored {
-        Scored::Score(x) => {
-            let at = print::put_bytes(out, 0, b"score ");
-            print::put_hex(out, at, pattern::to_bits(x) as u64, 8)
-        }
-        Scored::Refused(n) => put_refused(out, 0, n),
-    }
-}
-
-fn put_held(out: &mut [u8], held: Held) -> usize {
-    match held {
-        Held::Slot(i) => put_with(out, b"slot ", i as u64),
-        Held::None => print::put_bytes(out, 0, b"none"),
-        Held::Refused(n) => put_refused(out, 0, n),
-    }
+    numerals::put_decimal(out, next, number as u64)
 }
 
 // ---- results in words
@@ -1585,9 +1617,9 @@ fn bytes_kept(xs: &[u8], n: usize) -> bool {
 
 fn put_hit(out: &mut [u8], at: usize, number: u64, score: f32) -> usize {
     let a = print::put_byte(out, at, b' ');
-    let b = print::put_hex(out, a, number, 1);
+    let b = numerals::put_hex(out, a, number, 1);
     let c = print::put_byte(out, b, b':');
-    print::put_hex(out, c, pattern::to_bits(score) as u64, 8)
+    numerals::put_hex(out, c, pattern::to_bits(score) as u64, 8)
 }
 
 fn put_hits(out: &mut [u8], at: usize, numbers: &[u64], scores: &[f32], n: usize) -> usize {
@@ -1599,14 +1631,6 @@ fn put_hits(out: &mut [u8], at: usize, numbers: &[u64], scores: &[f32], n: usize
         i += 1;
     }
     next
-}
-
-// How many places a line of the command lends.
-fn places(c: usize, q: Request) -> usize {
-    if c == 22 {
-        return q.c as usize;
-    }
-    q.b as usize
 }
 
 // How many places an answer takes.
@@ -1629,20 +1653,13 @@ fn put_found(out: &mut [u8], found: Found, numbers: &[u64], mark: u64, scores: &
     }
 }
 
-fn put_length(out: &mut [u8], length: Written) -> usize {
-    match length {
-        Written::Bytes(n) => put_with(out, b"length ", n as u64),
-        Written::Refused(n) => put_refused(out, 0, n),
-    }
-}
-
 fn put_file(out: &mut [u8], written: Written, file: &[u8]) -> usize {
     match written {
         Written::Bytes(n) => {
             let at = put_spilt(out, bytes_kept(file, n));
             let next = print::put_bytes(out, at, b"bytes ");
             let end = capped(n, file.len());
-            print::put_run(out, next, &file[0..end])
+            numerals::put_run(out, next, &file[0..end])
         }
         Written::Refused(n) => {
             let at = put_spilt(out, bytes_kept(file, 0));
@@ -1651,154 +1668,9 @@ fn put_file(out: &mut [u8], written: Written, file: &[u8]) -> usize {
     }
 }
 
-// ---- pokes
-
-fn array_number(name: &[u8]) -> usize {
-    text::word_number(b"codes scales keys keyed held alive codes2 scales2", name)
-}
-
-// What a line sets: the number of the array, the place and the value; array 8, which there isn't, where the line can't be read.
-struct Poke {
-    array: usize,
-    place: usize,
-    value: u64,
-}
-
-fn poke_of(line: &[u8]) -> Poke {
-    let i = values::number_at(line, 2, u64::MAX);
-    let x = values::number_at(line, 3, u64::MAX);
-    let readable = i.ok && x.ok && text::field_count(line) == 4;
-    let name = array_number(text::field(line, 1));
-    Poke {
-        array: if readable { name } else { 8 },
-        place: i.value as usize,
-        value: x.value,
-    }
-}
-
-fn put_set(out: &mut [u8], done: bool, index: Index) -> Replied {
-    if !done {
-        return unreadable(out, index);
-    }
-    Replied {
-        index: index,
-        length: print::put_bytes(out, 0, b"ok"),
-    }
-}
-
-// Sets an element, where the array has it and its type holds the value.
-fn reply_set(
-    line: &[u8],
-    out: &mut [u8],
-    codes: &mut [u8],
-    scales: &mut [u32],
-    keys: &mut [u64],
-    keyed: &mut [bool],
-    held: &mut [u32],
-    alive: &mut [u8],
-    codes2: &mut [u8],
-    scales2: &mut [u32],
-    index: Index,
-) -> Replied {
-    let poke = poke_of(line);
-    let array = poke.array;
-    let i = poke.place;
-    let x = poke.value;
-    match array {
-        0 => put_set(out, poke_byte(codes, i, x), index),
-        1 => put_set(out, poke_word(scales, i, x), index),
-        2 => put_set(out, poke_key(keys, i, x), index),
-        3 => put_set(out, poke_flag(keyed, i, x), index),
-        4 => put_set(out, poke_word(held, i, x), index),
-        5 => put_set(out, poke_byte(alive, i, x), index),
-        6 => put_set(out, poke_byte(codes2, i, x), index),
-        7 => put_set(out, poke_word(scales2, i, x), index),
-        _ => unreadable(out, index),
-    }
-}
-
-fn poke_byte(xs: &mut [u8], i: usize, x: u64) -> bool {
-    if xs.len() <= i {
-        return false;
-    }
-    if 0xFF < x {
-        return false;
-    }
-    xs[i] = x as u8;
-    true
-}
-
-fn poke_word(xs: &mut [u32], i: usize, x: u64) -> bool {
-    if xs.len() <= i {
-        return false;
-    }
-    if 0xFFFF_FFFF < x {
-        return false;
-    }
-    xs[i] = x as u32;
-    true
-}
-
-fn poke_key(xs: &mut [u64], i: usize, x: u64) -> bool {
-    if xs.len() <= i {
-        return false;
-    }
-    xs[i] = x;
-    true
-}
-
-fn poke_flag(xs: &mut [bool], i: usize, x: u64) -> bool {
-    if xs.len() <= i {
-        return false;
-    }
-    if 1 < x {
-        return false;
-    }
-    xs[i] = x == 1;
-    true
-}
-
-fn reply_field(line: &[u8], out: &mut [u8], index: Index) -> Replied {
-    let words = b"dim working_dim seed bits residual n live cascade";
-    let field = text::word_number(words, text::field(line, 1));
-    let x = values::number_at(line, 2, greatest_of(field));
-    let readable = x.ok && text::field_count(line) == 3 && field < 8;
-    if !readable {
-        return unreadable(out, index);
-    }
-    Replied {
-        index: with_field(index, field, x.value),
-        length: print::put_bytes(out, 0, b"ok"),
-    }
-}
-
-// The greatest value that a field's type holds.
-fn greatest_of(field: usize) -> u64 {
-    match field {
-        3 => 0xFF,
-        4 | 7 => 1,
-        _ => u64::MAX,
-    }
-}
-
-fn with_field(index: Index, field: usize, x: u64) -> Index {
-    let mut y = index;
-    match field {
-        0 => y.dim = x as usize,
-        1 => y.working_dim = x as usize,
-        2 => y.seed = x,
-        3 => y.bits = low_byte(x),
-        4 => y.residual = x == 1,
-        5 => y.n = x as usize,
-        6 => y.live = x as usize,
-        _ => y.cascade = x == 1,
-    }
-    y
-}
-
 // ---- dump
 
-// Prints the record and the arrays piece by piece, but for the newline.
+// Prints the record and the arrays piece by piece, but for the newline. Nothing is left in out.
 fn dump(
     out: &mut [u8],
     codes: &[u8],
@@ -1810,15 +1682,12 @@ fn dump(
     codes2: &[u8],
     scales2: &[u32],
     index: Index,
-) -> Replied {
+) -> usize {
     let n = put_record(out, index);
     flush(out, n);
     print_slots(out, codes, scales, keys, keyed);
     print_marks(out, held, alive, codes2, scales2);
-    Replied {
-        index: index,
-        length: 0,
-    }
+    0
 }
 
 fn print_slots(out: &mut [u8], codes: &[u8], scales: &[u32], keys: &[u64], keyed: &[bool]) {
@@ -1864,7 +1733,7 @@ fn put_four(out: &mut [u8], at: usize, a: u64, b: u64, c: u64, d: u64) -> usize 
 
 fn put_field(out: &mut [u8], at: usize, x: u64) -> usize {
     let next = print::put_byte(out, at, b' ');
-    print::put_hex(out, next, x, 1)
+    numerals::put_hex(out, next, x, 1)
 }
 
 // The name of an array and its elements, so many digits each; `-` where there is none.
@@ -1873,7 +1742,7 @@ fn print_bytes(out: &mut [u8], name: &[u8], xs: &[u8]) {
     let mut i = 0;
     while i < xs.len() {
         let next = make_room(out, at);
-        at = print::put_hex(out, next, wide_byte(xs[i]), 2);
+        at = numerals::put_hex(out, next, wide_byte(xs[i]), 2);
         i += 1;
     }
     flush(out, at);
@@ -1884,7 +1753,7 @@ fn print_words(out: &mut [u8], name: &[u8], xs: &[u32]) {
     let mut i = 0;
     while i < xs.len() {
         let next = make_room(out, at);
-        at = print::put_hex(out, next, wide(xs[i]), 8);
+        at = numerals::put_hex(out, next, wide(xs[i]), 8);
         i += 1;
     }
     flush(out, at);
@@ -1895,7 +1764,7 @@ fn print_keys(out: &mut [u8], name: &[u8], xs: &[u64]) {
     let mut i = 0;
     while i < xs.len() {
         let next = make_room(out, at);
-        at = print::put_hex(out, next, xs[i], 16);
+        at = numerals::put_hex(out, next, xs[i], 16);
         i += 1;
     }
     flush(out, at);
@@ -1906,7 +1775,7 @@ fn print_flags(out: &mut [u8], name: &[u8], xs: &[bool]) {
     let mut i = 0;
     while i < xs.len() {
         let next = make_room(out, at);
-        at = print::put_hex(out, next, xs[i] as u64, 1);
+        at = numerals::put_hex(out, next, xs[i] as u64, 1);
         i += 1;
     }
     flush(out, at);

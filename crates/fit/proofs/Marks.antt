@@ -10,9 +10,9 @@ use lib.Dec.{leb, eqb}
 use borrow.Author.Tests.{leb-true, le-leb, eqb-true, eq-eqb}
 use Rattle.lists.specs.Keep.{bit, count}
 use Rattle.lists.proofs.Laws.{tab-ext}
-use Rattle.position_tree.specs.Decides.{Decides}
+use Rattle.positions.specs.Decides.{Decides}
 use Rattle.fit.specs.Fits.{Marked, EachMarked, liveMarks}
-use Rattle.position_tree.proofs.Decides.{decided}
+use Rattle.positions.proofs.Decides.{decided}
 use Rattle.positions.proofs.Tests.{both, left, right}
 use Rattle.positions.proofs.Slots.{count-last}
 

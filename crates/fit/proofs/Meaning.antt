@@ -10,9 +10,9 @@ use Rattle.lists.specs.Keep.{count}
 use Rattle.index.specs.declared.Index.{Index}
 use Rattle.index.specs.Arrays.{Arrays}
 use Rattle.index.specs.Fit.{between, Row, rowAt, fit}
-use Rattle.position_tree.specs.Decides.{Decides}
+use Rattle.positions.specs.Decides.{Decides}
 use Rattle.fit.specs.Fits.{liveMarks, keysOf, Fits}
-use Rattle.position_tree.proofs.Decides.{decided, decides-true}
+use Rattle.positions.proofs.Decides.{decided, decides-true}
 use Rattle.positions.proofs.Tests.{both, left, right, each, nothing, also}
 use Rattle.fit.proofs.Marks.{implied, implies}
 use Rattle.positions.proofs.Slots.{all-tab, tab-all, count-tab, rows-ordered}

@@ -12,7 +12,7 @@ use Rattle.encode.specs.Header.{blockSize}
 use Rattle.index.specs.declared.Index.{Index}
 use Rattle.index.specs.Arrays.{Arrays}
 use Rattle.index.specs.State.{headerOf, capacity}
-use Rattle.position_tree.specs.Ordered.{Keys, Ordered}
+use Rattle.positions.specs.Ordered.{Keys, Ordered}
 
 -- "a record field outside its range, a residual record of width 5 or 6"
 pub record Fields (x : Index) : Type 0 where

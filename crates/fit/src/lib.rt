@@ -2,36 +2,14 @@
 ghost use mathlib.Core.Path.{_≡_};
 ghost use mathlib.Core.Bool.{false};
 ghost use Prim.Native.Nat.{ℕ, _≤_, _<_, min};
-ghost use lib.ListN.{length, getD, set};
-ghost use Rattle.lists.specs.Keep.{bit};
+ghost use lib.ListN.{length, getD};
 ghost use Rattle.codes.specs.Writing.{atWidth};
 ghost use Rattle.index.specs.Arrays.{lent};
 ghost use Rattle.index.specs.State as State;
 ghost use Rattle.index.specs.Fit.{fit};
-ghost use Rattle.position_tree.specs.Decides.{Decides};
+ghost use Rattle.positions.specs.Decides.{Decides};
 ghost use Rattle.fit.specs.Fits.{Fields, Marked, EachMarked, liveMarks, Marks};
 use index::Index;
-
-// ---- live marks, which are read and written here alone
-
-// The live mark of a slot; 0 past the end.
-pub fn live_mark(alive: &[u8], slot: usize) -> u8
-    ensures { λ r. ⌜ r ≡ getD (now (alive .entry)) slot 0 ⌝ }
-{
-    if slot < alive.len() {
-        return alive[slot];
-    }
-    0
-}
-
-// Marks a slot as live or as dead; nothing past the end.
-pub fn set_live_mark(alive: &mut [u8], slot: usize, live: bool)
-    ensures { λ r. ⌜ now (alive .exit) ≡ set (now (alive .entry)) slot (bit live) ⌝ }
-{
-    if slot < alive.len() {
-        alive[slot] = live as u8;
-    }
-}
 
 // ---- the record
 
@@ -87,7 +65,9 @@ pub fn capacity(
     codes2: &[u8],
     scales2: &[u32],
 ) -> usize
-    ensures { λ r. ⌜ r ≡ atWidth (index .bits) (State.capacity (State.headerOf index) (lent (codes .entry) (scales .entry) (keys .entry) (keyed .entry) (held .entry) (alive .entry) (codes2 .entry) (scales2 .entry))) ⌝ }
+    ensures { λ r. ⌜
+        r ≡ atWidth (index .bits) (State.capacity (State.headerOf index)
+        (lent (codes .entry) (scales .entry) (keys .entry) (keyed .entry) (held .entry) (alive .entry) (codes2 .entry) (scales2 .entry))) ⌝ }
 {
     let bytes = codes::bytes_per_vector(padding::padded_dim(index.working_dim), index.bits);
     if bytes == 0 {
@@ -120,7 +100,7 @@ fn each_fits(keyed: &[bool], alive: &[u8]) -> bool
     let mut all = true;
     let mut i = 0;
     while i < keyed.len() {
-        all = all & mark_fits(keyed[i], live_mark(alive, i));
+        all = all & mark_fits(keyed[i], marks::live_mark(alive, i));
         i += 1;
     }
     all
@@ -135,7 +115,7 @@ fn live_total(alive: &[u8]) -> usize
     let mut many: u32 = 0;
     let mut i = 0;
     while i < alive.len() {
-        many += live_mark(alive, i) as u32;
+        many += marks::live_mark(alive, i) as u32;
         i += 1;
     }
     many as usize
@@ -166,7 +146,8 @@ pub fn fits(
     codes2: &[u8],
     scales2: &[u32],
 ) -> bool
-    ensures { λ r. ⌜ r ≡ fit index (lent (codes .entry) (scales .entry) (keys .entry) (keyed .entry) (held .entry) (alive .entry) (codes2 .entry) (scales2 .entry)) ⌝ }
+    ensures { λ r. ⌜
+        r ≡ fit index (lent (codes .entry) (scales .entry) (keys .entry) (keyed .entry) (held .entry) (alive .entry) (codes2 .entry) (scales2 .entry)) ⌝ }
 {
     if fields_fit(index) {
         let n = index.n;

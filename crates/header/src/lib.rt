@@ -1,8 +1,10 @@
 // The head of a file: its fields, and the tests of the first 24 or 25 bytes.
 ghost use mathlib.Core.Path.{_≡_};
-ghost use Rattle.index.specs.Read.{known, versionIn, dimIn, countIn, workingField, headerIn, stagesIn, headFault, overLimits};
-ghost use Rattle.header.specs.Head.{widthOf, headLength};
+ghost use Rattle.index.specs.Form.{stagesAt};
+ghost use Rattle.index.specs.Read.{versionIn, formIn, dimIn, countIn, workingField, headerIn, stagesIn, headFault, overLimits};
+ghost use Rattle.header.specs.Head.{widthOf};
 use encode::Header;
+use index::Form;
 use little_endian::after;
 use little_endian::rd_u8;
 use little_endian::rd_u16;
@@ -15,6 +17,13 @@ pub fn version_in(file: &[u8]) -> u16
     ensures { λ r. ⌜ r ≡ versionIn (now (file .entry)) ⌝ }
 {
     rd_u16(after(file, 4))
+}
+
+// What the file's version has.
+fn form_in(file: &[u8]) -> Form
+    ensures { λ r. ⌜ r ≡ formIn (now (file .entry)) ⌝ }
+{
+    form::form_of(version_in(file))
 }
 
 // How many slots the file has.
@@ -34,14 +43,14 @@ fn dim_in(file: &[u8]) -> u32
 fn working_field(file: &[u8]) -> u32
     ensures { λ r. ⌜ r ≡ workingField (now (file .entry)) ⌝ }
 {
-    if version_in(file) < 258 {
-        return 0;
+    if form_in(file).working {
+        return rd_u16(after(file, 6)) as u32;
     }
-    rd_u16(after(file, 6)) as u32
+    0
 }
 
 fn working_in(file: &[u8]) -> u32
-    ensures { λ r. ⌜ r ≡ headerIn (now (file .entry)) .working ⌝ }
+    ensures { λ r. ⌜ r ≡ headerIn (now (file .entry)) .«working_dim» ⌝ }
 {
     let working = working_field(file);
     if working == 0 {
@@ -51,9 +60,9 @@ fn working_in(file: &[u8]) -> u32
 }
 
 fn width_in(file: &[u8]) -> u8
-    ensures { λ r. ⌜ r ≡ headerIn (now (file .entry)) .width ⌝ }
+    ensures { λ r. ⌜ r ≡ headerIn (now (file .entry)) .bits ⌝ }
 {
-    if version_in(file) == 261 {
+    if form_in(file).width {
         return rd_u8(after(file, 24));
     }
     4
@@ -65,18 +74,18 @@ pub fn header_in(file: &[u8]) -> Header
 {
     Header {
         dim: dim_in(file) as usize,
-        working: working_in(file) as usize,
+        working_dim: working_in(file) as usize,
         seed: rd_u64(after(file, 12)),
-        width: width_in(file),
-        residual: version_in(file) == 260,
+        bits: width_in(file),
+        residual: form_in(file).second,
     }
 }
 
 // How long the head is: one byte more with a width byte.
-fn head_length(version: u16) -> usize
-    ensures { λ r. ⌜ r ≡ headLength version ⌝ }
+fn head_length(form: Form) -> usize
+    ensures { λ r. ⌜ r ≡ stagesAt form ⌝ }
 {
-    if version == 261 {
+    if form.width {
         return 25;
     }
     24
@@ -86,22 +95,10 @@ fn head_length(version: u16) -> usize
 pub fn stages_in(file: &[u8]) -> &[u8]
     ensures { λ r. ⌜ now r ≡ stagesIn (now (file .entry)) ⌝ }
 {
-    after(file, head_length(version_in(file)))
+    after(file, head_length(form_in(file)))
 }
 
 // ---- tests
-
-fn is_known(version: u16) -> bool
-    ensures { λ r. ⌜ r ≡ known version ⌝ }
-{
-    if version == 1 {
-        return true;
-    }
-    if version < 257 {
-        return false;
-    }
-    version <= 261
-}
 
 fn is_width(width: u8) -> bool
     ensures { λ r. ⌜ r ≡ widthOf width ⌝ }
@@ -122,14 +119,14 @@ pub fn head_fault(file: &[u8]) -> u8
     if rd_u32(file) != 0x5143_4556 {
         return 15;
     }
-    let version = version_in(file);
-    if !is_known(version) {
+    let form = form_in(file);
+    if !form.known {
         return 16;
     }
     if dim_in(file) < working_field(file) {
         return 17;
     }
-    if file.len() < head_length(version) {
+    if file.len() < head_length(form) {
         return 14;
     }
     if is_width(width_in(file)) {

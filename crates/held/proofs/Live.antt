@@ -7,14 +7,13 @@ use Prim.Native.Nat.{ℕ, zero, suc, _≤_, _<_}
 use native.Mathlib.Nat.{zero-add}
 use native.Mathlib.Omega.{arith}
 use lib.ListN.{length, getD, getElem?}
-use Rattle.lists.specs.Lists.{tab}
+use Rattle.lists.specs.Lists.{tab, below}
 use Rattle.lists.specs.Keep.{keep, count, numbered}
 use Rattle.lists.proofs.Laws.{length-tab, getD-tab}
 use Rattle.lists.proofs.Keep.{keep-map, keep-keep, count-map, count-keep-implied, length-numbered, getD-numbered}
 use Rattle.lists.proofs.Front.{map-tab, tab-is}
 use Rattle.index.specs.State.{Slot, live}
 use Rattle.index.specs.Step.{Cell, liveFrom, numberWhere}
-use Rattle.held.specs.Held.{below}
 
 -- ---- one slot by its number
 

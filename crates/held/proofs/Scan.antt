@@ -1,6 +1,6 @@
 -- The numbers below n that pass a test, as a loop that counts up meets them, and as the first n places of the arrays give them.
-use mathlib.Core.Path.{_≡_, refl, sym, ap, _∙_}
-use mathlib.Core.Bool.{Bool, true, false, _&&_, and-true, and-false}
+use mathlib.Core.Path.{_≡_, sym, ap, _∙_}
+use mathlib.Core.Bool.{Bool, true, false}
 use mathlib.Core.Logic.{⊎-elim}
 use mathlib.Core.List.{List, [], _∷_, _++_}
 use Prim.Native.Nat.{ℕ, zero, suc, _+_, _≤_, _<_}
@@ -9,13 +9,13 @@ use native.Mathlib.Numerals.{add-one}
 use native.Mathlib.Omega.{arith}
 use lib.ListN.{getD, take}
 use lib.Seq.{getD-take}
-use lib.Dec.{eqb}
-use borrow.Author.Tests.{eq-eqb, ne-eqb}
-use Rattle.lists.specs.Keep.{bit, keep, count, Each}
+use Rattle.lists.specs.Keep.{bit, keep, count}
 use Rattle.lists.proofs.Laws.{length-tab}
-use Rattle.lists.proofs.Keep.{count-append, count-length, count-same, keep-append}
+use Rattle.lists.proofs.Keep.{count-append, count-length, count-same, keep-append, keep-same}
 use Rattle.lists.proofs.Front.{each-tab}
-use Rattle.held.specs.Held.{below, slotHas, heldCount, slotHolds, heldSlot}
+use Rattle.slot_keys.specs.Has.{slotHas}
+use Rattle.held.specs.Held.{heldCount, slotHolds, heldSlot}
+use Rattle.lists.specs.Lists.{below}
 
 module _ (p : ℕ → Bool) where
   count-more : (i : ℕ) → count p (below (i + 1)) ≡ count p (below i) + bit (p i)
@@ -50,10 +50,6 @@ module _ (p : ℕ → Bool) where
 
 -- ---- two tests that agree below n
 
-pub keep-same : (p q : ℕ → Bool) (is : List ℕ) → Each (λ i. p i ≡ q i) is → keep p is ≡ keep q is
-keep-same p q [] h = refl
-keep-same p q (i ∷ is) h = rw (h .0, keep-same p q is (h .1))
-
 module _ (keys : List ℕ) (keyed : List Bool) (n key : ℕ) where
   front-has : (i : ℕ) → i < n → slotHas (take n keys) (take n keyed) key i ≡ slotHas keys keyed key i
   front-has i l = rw (getD-take n keyed i false l, getD-take n keys i 0 l)
@@ -69,12 +65,3 @@ module _ (keys : List ℕ) (keyed : List Bool) (n key : ℕ) where
     front-slot =
         ap (λ (is : List ℕ). getD is 0 n)
         (keep-same _ _ (below n) (each-tab (λ i. slotHolds (take n keys) (take n keyed) (take n held) key position i ≡ slotHolds keys keyed held key position i) (λ i. i) n front-holds))
-
--- ---- a key that is met, or another
-
-module _ (on : Bool) (word key : ℕ) where
-  pub key-met : word ≡ key → (on && eqb word key) ≡ on
-  key-met e = rw (eq-eqb word key e, and-true on)
-
-  pub key-other : (word ≡ key → ⊥) → (on && eqb word key) ≡ false
-  key-other n = rw (ne-eqb word key n, and-false on)

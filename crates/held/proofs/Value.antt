@@ -9,20 +9,20 @@ use native.Mathlib.Decide.{decLt}
 use lib.ListN.{length, getD, getElem?}
 use lib.Dec.{ltb, eqb}
 use borrow.Author.Tests.{eqb-true, lt-ltb}
-use Rattle.lists.specs.Lists.{tab}
+use Rattle.lists.specs.Lists.{tab, below}
 use Rattle.lists.specs.Keep.{bit, keep, count, Each}
-use Rattle.lists.proofs.Keep.{length-keep, count-map, count-same, each-keep, each-kept}
+use Rattle.lists.proofs.Keep.{length-keep, count-map, count-same, each-keep, each-kept, keep-same}
 use Rattle.lists.proofs.Front.{map-tab, each-tab, tab-each}
 use Rattle.index.specs.declared.Index.{Index}
 use Rattle.index.specs.Arrays.{Arrays}
-use Rattle.index.specs.State.{Mark, dead, unkeyed, keyed, Slot, isLive, headerOf, markOf, slotAt, stateOf}
+use Rattle.index.specs.State.{Mark, dead, unkeyed, keyed, Slot, isLive, headerOf, markOf, slotAt, stateOf, newSlot}
 use Rattle.index.specs.Fit.{rowAt, fit}
 use Rattle.index.specs.Step.{liveFrom, numberWhere, holds, holdsAt, heldBy, isHeld, slotHolding, keyOfMark, keyAnswer, positionOf}
 use Rattle.index.specs.Sound.{marks}
 use Rattle.index.proofs.Fits.{fitting, fit-sound}
 use Rattle.positions.proofs.Slots.{count-at, once-count}
-use Rattle.held.specs.Held.{below, slotHas, heldCount, slotHolds, heldSlot}
-use Rattle.held.proofs.Scan.{keep-same}
+use Rattle.slot_keys.specs.Has.{slotHas}
+use Rattle.held.specs.Held.{heldCount, slotHolds, heldSlot}
 use Rattle.held.proofs.Live.{tab-in, tab-past, firstIn, live-count, live-first}
 
 -- ---- tests
@@ -115,7 +115,7 @@ module _ (x : Index) (a : Arrays) (e : fit x a ≡ true) where
     pub position-in : (j : ℕ) → positionOf j (getElem? (stateOf x a .slots) i) ≡ cond (slotHas (a .keys) (a .keyed) j i) (some (getD (a .held) i 0)) none
     position-in j =
         ap (positionOf j) slot-in
-        ∙ mark-part (λ m. positionOf j (some (record { mark = m; code = slotAt (headerOf x) a i .code }))) none (λ u. refl) (λ u. refl)
+        ∙ mark-part (λ m. positionOf j (some (newSlot m (slotAt (headerOf x) a i .code)))) none (λ u. refl) (λ u. refl)
         ∙ cond-both (getD (a .keyed) i false) (eqb (getD (a .keys) i 0) j) (some (getD (a .held) i 0)) none
 
   -- a slot past those in use

@@ -1,31 +1,10 @@
 // The slots that hold a key, found by scanning (document 01, "keys found by scanning").
 // An entry past the end of its array counts as none: no key, word 0, position 0.
 ghost use mathlib.Core.Path.{_≡_};
-ghost use mathlib.Core.Bool.{false};
 ghost use lib.ListN.{getD};
-ghost use Rattle.held.specs.Held.{slotHas, slotHolds, heldCount, heldSlot};
+ghost use Rattle.held.specs.Held.{slotHolds, heldCount, heldSlot};
 
 // ---- one slot
-
-// Whether a slot has a key.
-pub fn is_keyed(keyed: &[bool], slot: usize) -> bool
-    ensures { λ r. ⌜ r ≡ getD (now (keyed .entry)) slot false ⌝ }
-{
-    if slot < keyed.len() {
-        return keyed[slot];
-    }
-    false
-}
-
-// The word that stands for a slot's key, where it has one.
-pub fn key_word(keys: &[u64], slot: usize) -> u64
-    ensures { λ r. ⌜ r ≡ getD (now (keys .entry)) slot 0 ⌝ }
-{
-    if slot < keys.len() {
-        return keys[slot];
-    }
-    0
-}
 
 // The position of a slot in held order, where it has a key.
 fn held_position(held: &[u32], slot: usize) -> usize
@@ -35,16 +14,6 @@ fn held_position(held: &[u32], slot: usize) -> usize
         return held[slot] as usize;
     }
     0
-}
-
-// Whether a slot has this key.
-pub fn has_key(keys: &[u64], keyed: &[bool], slot: usize, key: u64) -> bool
-    ensures { λ r. ⌜ r ≡ slotHas (now (keys .entry)) (now (keyed .entry)) key slot ⌝ }
-{
-    if key_word(keys, slot) == key {
-        return is_keyed(keyed, slot);
-    }
-    false
 }
 
 // Whether a slot holds this position of the key.
@@ -58,7 +27,7 @@ fn holds_position(
 ) -> bool
     ensures { λ r. ⌜ r ≡ slotHolds (now (keys .entry)) (now (keyed .entry)) (now (held .entry)) key position slot ⌝ }
 {
-    if has_key(keys, keyed, slot, key) {
+    if slot_keys::has_key(keys, keyed, slot, key) {
         return held_position(held, slot) == position;
     }
     false
@@ -73,7 +42,7 @@ fn count_slots(keys: &[u64], keyed: &[bool], n: usize, key: u64) -> usize
     let mut many: usize = 0;
     let mut i = 0;
     while i < n {
-        if has_key(keys, keyed, i, key) {
+        if slot_keys::has_key(keys, keyed, i, key) {
             many += 1;
         }
         i += 1;

@@ -10,13 +10,14 @@ use lib.ListN.{length, getD, set}
 use lib.Seq.{getD-set-same, getD-set-other}
 use lib.Dec.{eqb}
 use borrow.Author.Tests.{eqb-true}
-use Rattle.index.proofs.Marks.{and-left, and-right}
+use Rattle.lists.proofs.Tests.{and-left, and-right}
 use Rattle.held.specs.Held.{heldCount}
 use Rattle.chains.specs.Chains.{LastOf, Chains}
 use Rattle.chains.proofs.Chains.{count-first, count-after, chains-none}
 use Rattle.held_order.specs.Restored.{risingPosition}
 use Rattle.held_order.specs.Placed.{afterEntry, Placed}
-use Rattle.held_order.proofs.Writing.{Written, written-none, written-more, rising-below}
+use Rattle.lists.proofs.Writing.{Written, written-none, written-more}
+use Rattle.held_order.proofs.Writing.{rising-below}
 
 module _ (keys : List ℕ) (keyed : List Bool) where
   -- ---- the position of a slot

@@ -23,10 +23,10 @@ fn find(keys: &[u64], keyed: &[bool], before: &[u32], slot: usize, first: usize)
     requires { ⌜ Latest (now keys) (now keyed) (chainOf (getD (now keys) slot 0)) slot first ⌝ }
     ensures { λ r. ⌜ LastOf (now (keys .entry)) (now (keyed .entry)) (getD (now (keys .entry)) slot 0) slot r ⌝ }
 {
-    let key = held::key_word(keys, slot);
+    let key = slot_keys::key_word(keys, slot);
     let mut entry = first;
     while 0 < entry {
-        if held::has_key(keys, keyed, entry - 1, key) {
+        if slot_keys::has_key(keys, keyed, entry - 1, key) {
             return entry;
         }
         entry = wide(before[entry - 1]);
@@ -63,7 +63,7 @@ fn place_keyed(
     ensures { λ _. ⌜ now (held .exit) ≡ set (now (held .entry)) slot (risingPosition (now (keys .entry)) (now (keyed .entry)) slot) ⌝ }
     ensures { λ _. ⌜ Chains (now (keys .entry)) (now (keyed .entry)) (now (heads .exit)) (now (before .exit)) (suc slot) ⌝ }
 {
-    let chain = chains::chain_of(held::key_word(keys, slot));
+    let chain = chains::chain_of(slot_keys::key_word(keys, slot));
     let first = heads[chain];
     let last = find(keys, keyed, before, slot, wide(first));
     held[slot] = next_position(held, last);
@@ -86,7 +86,7 @@ fn place(
     ensures { λ _. ⌜ now (held .exit) ≡ set (now (held .entry)) slot (risingPosition (now (keys .entry)) (now (keyed .entry)) slot) ⌝ }
     ensures { λ _. ⌜ Chains (now (keys .entry)) (now (keyed .entry)) (now (heads .exit)) (now (before .exit)) (suc slot) ⌝ }
 {
-    if held::is_keyed(keyed, slot) {
+    if slot_keys::is_keyed(keyed, slot) {
         place_keyed(keys, keyed, held, heads, before, slot);
     } else {
         held[slot] = 0;

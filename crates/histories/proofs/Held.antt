@@ -9,15 +9,15 @@ use native.Mathlib.Omega.{arith}
 use lib.ListN.{length}
 use lib.Dec.{T, ltb, eqb}
 use borrow.Author.Tests.{eqb-true, eqb-false, eq-eqb, ne-eqb, lt-ltb}
-use Rattle.lists.specs.Keep.{bit, keep, count, Each}
+use Rattle.lists.specs.Keep.{bit, keep, count, Each, any}
 use Rattle.encode.specs.declared.Header.{Header}
 use Rattle.encode.specs.Coded.{Code, spareOf}
-use Rattle.index.specs.State.{Mark, dead, unkeyed, keyed, Slot, live, keyWord, position}
+use Rattle.index.specs.State.{Mark, dead, unkeyed, keyed, Slot, live, keyWord, position, newSlot, withMark}
 use Rattle.index.specs.Codec.{encoded}
 use Rattle.index.specs.Step as Step
-use Rattle.index.specs.Step.{Item, Cell, any, holds, holdsAt, keyOfMark, heldBy, isHeld, numberWhere, slotHolding, onMark, removed, oneMore, rising, liveFrom}
+use Rattle.index.specs.Step.{Item, Cell, holds, holdsAt, keyOfMark, heldBy, isHeld, numberWhere, slotHolding, onMark, removed, oneMore, rising, liveFrom}
 use Rattle.index.proofs.Read.{unkeyedWord}
-use Rattle.histories.specs.Histories.{LiveArrival, isKey, carries, taken, recoded, overwritten, relabelled, ids, liveArrival, liveBy}
+use Rattle.histories.specs.Histories.{LiveArrival, isKey, carries, taken, codedAnew, firstOverwritten, renamed, ids, liveArrival, liveBy}
 use Rattle.histories.proofs.Cells.{onCell, liveCell, cellIds}
 
 -- the mark of a live arrival, `seen` saying how many arrivals of each key came before
@@ -30,7 +30,7 @@ seenAfter seen none = seen
 seenAfter seen (some k) = oneMore k seen
 
 abbrev pub cell : ℕ → Mark → Code → Cell
-cell a m c = record { number = a; slot = record { mark = m; code = c } }
+cell a m c = record { number = a; slot = newSlot m c }
 
 abbrev keyedAs : LiveArrival → Option ℕ → LiveArrival
 keyedAs l o = record { arrival = l .arrival; key = o; code = l .code }
@@ -79,7 +79,7 @@ pub cells-length : (seen : ℕ → ℕ) (ls : List LiveArrival) → length (cell
 cells-length seen [] = refl
 cells-length seen (l ∷ ls) = ap suc (cells-length (seenAfter seen (l .key)) ls)
 
-mark-live : (seen : ℕ → ℕ) (c : Code) (o : Option ℕ) → live (record { mark = markFor seen o; code = c }) ≡ true
+mark-live : (seen : ℕ → ℕ) (c : Code) (o : Option ℕ) → live (newSlot (markFor seen o) c) ≡ true
 mark-live seen c none = refl
 mark-live seen c (some k) = refl
 
@@ -158,7 +158,7 @@ module _ (h : Header) (j : ℕ) (v : Item) where
   over-none seen z (l ∷ ls) = rw (mark-later seen j z (l .key), over-none (seenAfter seen (l .key)) (omega (arith, after-count (l .key) j seen)) ls)
 
   -- an overwrite
-  pub cells-overwritten : (seen : ℕ → ℕ) → seen j ≡ 0 → (ls : List LiveArrival) → map over (cellsOf seen ls) ≡ cellsOf seen (overwritten h j v ls)
+  pub cells-overwritten : (seen : ℕ → ℕ) → seen j ≡ 0 → (ls : List LiveArrival) → map over (cellsOf seen ls) ≡ cellsOf seen (firstOverwritten h j v ls)
   cells-overwritten seen z [] = refl
   cells-overwritten seen z (l ∷ ls) =
       rw (mark-first seen j z (l .key))
@@ -166,18 +166,18 @@ module _ (h : Header) (j : ℕ) (v : Item) where
       (λ e. cells-overwritten (seenAfter seen (l .key)) (after-count (l .key) j seen ∙ omega (arith, ap bit e)) ls))
     where
       go : (b : Bool) → carries j l ≡ b → (carries j l ≡ true → map over (cellsOf (seenAfter seen (l .key)) ls) ≡ cellsOf (seenAfter seen (l .key)) ls) →
-          (carries j l ≡ false → map over (cellsOf (seenAfter seen (l .key)) ls) ≡ cellsOf (seenAfter seen (l .key)) (overwritten h j v ls)) →
+          (carries j l ≡ false → map over (cellsOf (seenAfter seen (l .key)) ls) ≡ cellsOf (seenAfter seen (l .key)) (firstOverwritten h j v ls)) →
           _≡_ {A = List Cell}
           (cell (l .arrival) (markFor seen (l .key)) (cond b (encoded h (spareOf h (l .code)) v) (l .code)) ∷ map over (cellsOf (seenAfter seen (l .key)) ls))
-          (cellsOf seen (cond b (recoded h v l ∷ ls) (l ∷ overwritten h j v ls)))
+          (cellsOf seen (cond b (codedAnew h v l ∷ ls) (l ∷ firstOverwritten h j v ls)))
       go true e f g = rw (f e)
       go false e f g = rw (g e)
 
-  pub ids-overwritten : (ls : List LiveArrival) → ids (overwritten h j v ls) ≡ ids ls
+  pub ids-overwritten : (ls : List LiveArrival) → ids (firstOverwritten h j v ls) ≡ ids ls
   ids-overwritten [] = refl
   ids-overwritten (l ∷ ls) = go (carries j l) (ids-overwritten ls)
     where
-      go : (b : Bool) → ids (overwritten h j v ls) ≡ ids ls → ids (cond b (recoded h v l ∷ ls) (l ∷ overwritten h j v ls)) ≡ l .arrival ∷ ids ls
+      go : (b : Bool) → ids (firstOverwritten h j v ls) ≡ ids ls → ids (cond b (codedAnew h v l ∷ ls) (l ∷ firstOverwritten h j v ls)) ≡ l .arrival ∷ ids ls
       go true ih = refl
       go false ih = ap (λ (r : List ℕ). l .arrival ∷ r) ih
 
@@ -206,22 +206,22 @@ cells-removed j c d (l ∷ ls) e = go (l .key) (λ c′ d′ e′. cells-removed
 -- ---- relabelling, where whoever has the new key has the old one
 
 pub cells-relabelled : (j k : ℕ) (c d : ℕ → ℕ) (ls : List LiveArrival) → c j ≡ d k → ((i : ℕ) → (i ≡ j → ⊥) → (i ≡ k → ⊥) → c i ≡ d i) →
-    Each (λ l. carries k l ≡ true → carries j l ≡ true) ls → map (onCell (onMark (Step.relabelled j k))) (cellsOf c ls) ≡ cellsOf d (map (relabelled j k) ls)
+    Each (λ l. carries k l ≡ true → carries j l ≡ true) ls → map (onCell (onMark (Step.relabelled j k))) (cellsOf c ls) ≡ cellsOf d (map (renamed j k) ls)
 cells-relabelled j k c d [] e f h = refl
 cells-relabelled j k c d (l ∷ ls) e f h = go (l .key) (h .0) (λ c′ d′ e′ f′. cells-relabelled j k c′ d′ ls e′ f′ (h .1))
   where
     go : (o : Option ℕ) → (isKey k o ≡ true → isKey j o ≡ true) →
         ((c′ d′ : ℕ → ℕ) → c′ j ≡ d′ k → ((i : ℕ) → (i ≡ j → ⊥) → (i ≡ k → ⊥) → c′ i ≡ d′ i) →
-        map (onCell (onMark (Step.relabelled j k))) (cellsOf c′ ls) ≡ cellsOf d′ (map (relabelled j k) ls)) →
+        map (onCell (onMark (Step.relabelled j k))) (cellsOf c′ ls) ≡ cellsOf d′ (map (renamed j k) ls)) →
         map (onCell (onMark (Step.relabelled j k))) (cellsOf c (keyedAs l o ∷ ls)) ≡
-        cellsOf d (map (relabelled j k) (keyedAs l o ∷ ls))
+        cellsOf d (map (renamed j k) (keyedAs l o ∷ ls))
     go none n ih = ap (λ (r : List Cell). cell (l .arrival) (unkeyed 0) (l .code) ∷ r) (ih c d e f)
     go (some i) n ih = at (eqb i j) refl
       where
         at : (b : Bool) → eqb i j ≡ b →
             _≡_ {A = List Cell}
             (cell (l .arrival) (cond b (keyed k (c i)) (keyed i (c i))) (l .code) ∷ map (onCell (onMark (Step.relabelled j k))) (cellsOf (oneMore i c) ls))
-            (cellFor d (keyedAs l (cond b (some k) (some i))) ∷ cellsOf (seenAfter d (cond b (some k) (some i))) (map (relabelled j k) ls))
+            (cellFor d (keyedAs l (cond b (some k) (some i))) ∷ cellsOf (seenAfter d (cond b (some k) (some i))) (map (renamed j k) ls))
         at true g =
             let ij : i ≡ j = eqb-true i j g in
             ap₂ (λ (p : ℕ) (r : List Cell). cell (l .arrival) (keyed k p) (l .code) ∷ r) (ap c ij ∙ e)
@@ -259,10 +259,10 @@ cells-rising seen [] = refl
 cells-rising seen (l ∷ ls) = go (l .key) (λ next. cells-rising next ls)
   where
     go : (o : Option ℕ) → ((next : ℕ → ℕ) → rising next (map (λ c. c .slot) (cellsOf next ls)) ≡ map (λ c. c .slot) (cellsOf next ls)) →
-        rising seen (record { mark = markFor seen o; code = l .code } ∷ map (λ c. c .slot) (cellsOf (seenAfter seen o) ls)) ≡
-        record { mark = markFor seen o; code = l .code } ∷ map (λ c. c .slot) (cellsOf (seenAfter seen o) ls)
-    go none ih = ap (λ (r : List Slot). record { mark = unkeyed 0; code = l .code } ∷ r) (ih seen)
-    go (some k) ih = ap (λ (r : List Slot). record { mark = keyed k (seen k); code = l .code } ∷ r) (ih (oneMore k seen))
+        rising seen (newSlot (markFor seen o) (l .code) ∷ map (λ c. c .slot) (cellsOf (seenAfter seen o) ls)) ≡
+        newSlot (markFor seen o) (l .code) ∷ map (λ c. c .slot) (cellsOf (seenAfter seen o) ls)
+    go none ih = ap (λ (r : List Slot). newSlot (unkeyed 0) (l .code) ∷ r) (ih seen)
+    go (some k) ih = ap (λ (r : List Slot). newSlot (keyed k (seen k)) (l .code) ∷ r) (ih (oneMore k seen))
 
 -- ---- slots whose live cells are those of live arrivals hold rising positions
 
@@ -275,11 +275,11 @@ cells-held seen ws [] ls n e = refl
 cells-held seen [] (s ∷ ss) ls n e = absurd (omega arith)
 cells-held seen (a ∷ ws) (s ∷ ss) ls n e = go (s .mark) e (λ next ls′ e′. cells-held next ws ss ls′ (omega arith) e′)
   where
-    go : (m : Mark) → liveBy (a ∷ ws) (record { mark = m; code = s .code } ∷ ss) ≡ cellsOf seen ls →
+    go : (m : Mark) → liveBy (a ∷ ws) (withMark s m ∷ ss) ≡ cellsOf seen ls →
         ((next : ℕ → ℕ) (ls′ : List LiveArrival) → liveBy ws ss ≡ cellsOf next ls′ → rising next ss ≡ ss) →
-        rising seen (record { mark = m; code = s .code } ∷ ss) ≡ record { mark = m; code = s .code } ∷ ss
-    go (dead u) e ih = ap (λ (r : List Slot). record { mark = dead u; code = s .code } ∷ r) (ih seen ls e)
-    go (unkeyed u) e ih = ap (λ (r : List Slot). record { mark = unkeyed u; code = s .code } ∷ r) (at ls e)
+        rising seen (withMark s m ∷ ss) ≡ withMark s m ∷ ss
+    go (dead u) e ih = ap (λ (r : List Slot). withMark s (dead u) ∷ r) (ih seen ls e)
+    go (unkeyed u) e ih = ap (λ (r : List Slot). withMark s (unkeyed u) ∷ r) (at ls e)
       where
         key : (l : LiveArrival) (o : Option ℕ) (ls′ : List LiveArrival) → cell a (unkeyed u) (s .code) ∷ liveBy ws ss ≡ cellsOf seen (keyedAs l o ∷ ls′) →
             rising seen ss ≡ ss
@@ -292,17 +292,17 @@ cells-held seen (a ∷ ws) (s ∷ ss) ls n e = go (s .mark) e (λ next ls′ e�
     go (keyed k p) e ih = at ls e
       where
         key : (l : LiveArrival) (o : Option ℕ) (ls′ : List LiveArrival) → cell a (keyed k p) (s .code) ∷ liveBy ws ss ≡ cellsOf seen (keyedAs l o ∷ ls′) →
-            record { mark = keyed k (seen k); code = s .code } ∷ rising (oneMore k seen) ss ≡ record { mark = keyed k p; code = s .code } ∷ ss
+            withMark s (keyed k (seen k)) ∷ rising (oneMore k seen) ss ≡ withMark s (keyed k p) ∷ ss
         key l none ls′ f = absurd (marks-part 0 k p (sym (ap (λ (c : Cell). c .slot .mark) (head-eq-of-cons-eq f))))
         key l (some j) ls′ f =
             let m : keyed k p ≡ keyed j (seen j) = ap (λ (c : Cell). c .slot .mark) (head-eq-of-cons-eq f) in
             let kj : k ≡ j = ap keyWord m in
             let q : p ≡ seen k = ap position m ∙ ap seen (sym kj) in
-            rw q (ap (λ (r : List Slot). record { mark = keyed k (seen k); code = s .code } ∷ r)
+            rw q (ap (λ (r : List Slot). withMark s (keyed k (seen k)) ∷ r)
             (ih (oneMore k seen) ls′ (tail-eq-of-cons-eq f ∙ ap (λ (i : ℕ). cellsOf (oneMore i seen) ls′) (sym kj))))
 
         at : (ls′ : List LiveArrival) → cell a (keyed k p) (s .code) ∷ liveBy ws ss ≡ cellsOf seen ls′ →
-            record { mark = keyed k (seen k); code = s .code } ∷ rising (oneMore k seen) ss ≡ record { mark = keyed k p; code = s .code } ∷ ss
+            withMark s (keyed k (seen k)) ∷ rising (oneMore k seen) ss ≡ withMark s (keyed k p) ∷ ss
         at [] f = absurd (let z : _≡_ {A = ℕ} 0 1 = cc in omega arith)
         at (l ∷ ls′) f = key l (l .key) ls′ f
 
@@ -313,9 +313,9 @@ unfolding rising liveFrom
 cells-risen seen i [] e h = refl
 cells-risen seen i (s ∷ ss) e h = go (s .mark) e (h .0) (λ next f. cells-risen next (suc i) ss f (h .1))
   where
-    go : (m : Mark) → rising seen (record { mark = m; code = s .code } ∷ ss) ≡ record { mark = m; code = s .code } ∷ ss → unkeyedWord m ≡ 0 →
+    go : (m : Mark) → rising seen (withMark s m ∷ ss) ≡ withMark s m ∷ ss → unkeyedWord m ≡ 0 →
         ((next : ℕ → ℕ) → rising next ss ≡ ss → liveFrom (suc i) ss ≡ cellsOf next (map liveArrival (liveFrom (suc i) ss))) →
-        liveFrom i (record { mark = m; code = s .code } ∷ ss) ≡ cellsOf seen (map liveArrival (liveFrom i (record { mark = m; code = s .code } ∷ ss)))
+        liveFrom i (withMark s m ∷ ss) ≡ cellsOf seen (map liveArrival (liveFrom i (withMark s m ∷ ss)))
     go (dead u) e z ih = ih seen (tail-eq-of-cons-eq e)
     go (unkeyed u) e z ih =
         ap₂ (λ (w : ℕ) (r : List Cell). cell i (unkeyed w) (s .code) ∷ r) z (ih seen (tail-eq-of-cons-eq e))

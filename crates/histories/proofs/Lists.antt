@@ -6,8 +6,7 @@ use Prim.Native.Nat.{_<_}
 use native.Mathlib.Omega.{arith}
 use lib.ListN.{length}
 use lib.Dec.{T}
-use Rattle.lists.specs.Keep.{Each}
-use Rattle.index.specs.Step.{any}
+use Rattle.lists.specs.Keep.{Each, any}
 
 module _ {X : Type 0} where
   -- what holds of each holds of an entry

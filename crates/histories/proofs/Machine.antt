@@ -17,12 +17,12 @@ abbrev pub cellsIn : Told → List Cell
 cellsIn t = cellsOf none-seen (t .living)
 
 abbrev pub appending : (full : Bool) → Told → Item → Answer
-appending full t v = unless (firstOf (fault (t .header) v ∷ when full 8 ∷ [])) (slot (t .next))
+appending full t v = unless (firstOf (fault (t .header) (v .vector) ∷ when full 8 ∷ [])) (slot (t .next))
 
 -- by the first live arrival of the key
 abbrev pub appendingOrOver : (full : Bool) → Told → Item → Option ℕ → Answer
 appendingOrOver full t v none = appending full t v
-appendingOrOver full t v (some a) = unless (fault (t .header) v) (slot a)
+appendingOrOver full t v (some a) = unless (fault (t .header) (v .vector)) (slot a)
 
 unfoldable pub answerOf : (full : Bool) → Told → HistoryOp → Answer
 answerOf full t (add v) = appending full t v
@@ -57,7 +57,7 @@ part-none append b = record { same = λ e. refl; left = λ e f. absurd (subst T 
 
 appending-parts : (full empty : Bool) (t : Told) (v : Item) → PartFull true (appending full t v) (appending empty t v)
 unfolding firstOf
-appending-parts full empty t v = go (fault (t .header) v) full empty
+appending-parts full empty t v = go (fault (t .header) (v .vector)) full empty
   where
     go : (n : ℕ) (b c : Bool) → PartFull true (unless (firstOf (n ∷ when b 8 ∷ [])) (slot (t .next))) (unless (firstOf (n ∷ when c 8 ∷ [])) (slot (t .next)))
     go (suc n) b c = part-none true (refused (suc n))
@@ -74,7 +74,7 @@ answers-part full empty t (addKeyed j v) = go (slotHolding j 0 (cellsIn t)) (fir
     go : (o : Option ℕ) → found o ≡ taken j (t .living) →
         PartFull (not (taken j (t .living))) (appendingOrOver full t v o) (appendingOrOver empty t v o)
     go none e = rw (← e) (appending-parts full empty t v)
-    go (some a) e = part-none (not (taken j (t .living))) (unless (fault (t .header) v) (slot a))
+    go (some a) e = part-none (not (taken j (t .living))) (unless (fault (t .header) (v .vector)) (slot a))
 answers-part full empty t (addMulti j v) = appending-parts full empty t v
 answers-part full empty t (relabel j k) = part-none false _
 answers-part full empty t (remove j) = part-none false _

@@ -14,7 +14,7 @@ use Rattle.index.specs.Call.{Result}
 use Rattle.index.specs.History.{HistoryOp, add, addKeyed, addMulti, relabel, remove, compact, score, search, searchKeyed, keyOf, contains, slotOf, fileLength, write, opAt}
 use Rattle.index.proofs.Kept.{fit-kept, call-state}
 use Rattle.index.proofs.Calls.{call-fits}
-use Rattle.histories.specs.Histories.{Told, says, isCompact, numbered, number, arrivalAt, ids, accepted, Run, called, advance, Moment, moments, after, accepts, answer, struck, others, History, namesLive, Legal, slotsOf}
+use Rattle.histories.specs.Histories.{Told, says, isCompact, keptArrivals, numberNow, arrivalAt, ids, accepted, Run, called, advance, Moment, moments, after, accepts, answer, struck, others, History, namesLive, Legal, slotsOf}
 use Rattle.histories.proofs.Reading.{readAccepted, read-accepted}
 use Rattle.histories.proofs.Tracks.{Tracks}
 use Rattle.histories.proofs.Machine.{answerOf, next}
@@ -34,7 +34,7 @@ full r = leb (capacity (headerOf (r .index)) (r .arrays)) (length (slotsOf r))
 
 module _ (r : Run) (g : Good r) (op : HistoryOp) where
   abbrev asked : Op
-  asked = opAt (number (r .arrivals)) op
+  asked = opAt (numberNow (r .arrivals)) op
 
   abbrev room : ℕ
   room = capacity (headerOf (r .index)) (r .arrays)
@@ -78,7 +78,7 @@ module _ (r : Run) (g : Good r) (op : HistoryOp) where
         header = rw called-answer (called-header ∙ outcome-taken .header ∙ sym (outcome-taken .told));
         tracks =
             rw called-answer
-            (subst (λ (s : State). Tracks (cond (accepted (outcome .answer)) (numbered op (r .told) (r .arrivals)) (r .arrivals))
+            (subst (λ (s : State). Tracks (cond (accepted (outcome .answer)) (keptArrivals op (r .told) (r .arrivals)) (r .arrivals))
             (toldNext (outcome .answer) .next) (s .slots) (toldNext (outcome .answer) .living))
             (sym called-state) (outcome-taken .tracks));
       }

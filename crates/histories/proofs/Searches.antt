@@ -9,19 +9,19 @@ use lib.ListN.{length, length-map}
 use lib.Dec.{T, ltb, eqb}
 use lib.Ieee.{Float, isNan}
 use borrow.Author.Tests.{lt-ltb, eqb-true, eq-eqb, ne-eqb}
-use Rattle.lists.specs.Keep.{bit, Each}
+use Rattle.lists.specs.Keep.{bit, Each, any}
 use Rattle.lists.proofs.Keep.{each-mem, each-weaken, count-none}
 use Rattle.lists.proofs.Front.{each-map, map-each}
 use Rattle.choose.specs.Choose.{choose}
 use Rattle.choose.proofs.Choice.{choose-length, choose-each, choose-count, choose-falls, choose-others, choose-map}
 use Rattle.encode.specs.declared.Header.{Header}
 use Rattle.encode.specs.Coded.{fault}
-use Rattle.index.specs.State.{Mark, Slot}
+use Rattle.index.specs.State.{Mark, Slot, newSlot}
 use Rattle.index.specs.Codec.{scoreOf, tiny}
-use Rattle.index.specs.Step.{Query, scoreIs, hits, any, firstOf, when, unless, Hit, rank, hitOf, hitsOf, bySlot, queryRefusal, shortResult, searched, scoreAnswer}
+use Rattle.index.specs.Step.{Query, scoreIs, hits, firstOf, when, unless, Hit, rank, hitOf, hitsOf, bySlot, queryRefusal, shortResult, searched, scoreAnswer}
 use Rattle.index.specs.History.{HistoryOp, score, search}
 use Rattle.index.proofs.Kept.{first-none, when-none}
-use Rattle.histories.specs.Histories.{LiveArrival, ids, accepted, Run, accepts, answer, scores, orderOf, times, Lists, SearchesSound, begin}
+use Rattle.histories.specs.Histories.{LiveArrival, ids, accepted, Run, accepts, answer, scores, orderOf, times, ListsBest, SearchesSound, begin}
 use Rattle.histories.proofs.Lists.{each-of, mem-map, mem-length, any-none, any-mem}
 use Rattle.histories.proofs.Reading.{unless-accepted}
 use Rattle.histories.proofs.Arrivals.{Sorted}
@@ -40,13 +40,13 @@ module _ (h : Header) (q : Query) where
 
 -- an arrival's own code is found
 find-own : (seen : ℕ → ℕ) (ls : List LiveArrival) → Sorted (ids ls) → Each (λ l. (m : Mark) ×
-    (find (l .arrival) (cellsOf seen ls) ≡ some (record { mark = m; code = l .code }))) ls
+    (find (l .arrival) (cellsOf seen ls) ≡ some (newSlot m (l .code)))) ls
 find-own seen [] s = tt
 find-own seen (x ∷ ls) s = ((markFor seen (x .key), rw (eq-eqb (x .arrival) (x .arrival) refl)), go ls (s .0) (find-own (seenAfter seen (x .key)) ls (s .1)))
   where
     go : (zs : List LiveArrival) → Each (λ b. x .arrival < b) (ids zs) →
-        Each (λ l. (m : Mark) × (find (l .arrival) (cellsOf (seenAfter seen (x .key)) ls) ≡ some (record { mark = m; code = l .code }))) zs →
-        Each (λ l. (m : Mark) × (find (l .arrival) (cellsOf seen (x ∷ ls)) ≡ some (record { mark = m; code = l .code }))) zs
+        Each (λ l. (m : Mark) × (find (l .arrival) (cellsOf (seenAfter seen (x .key)) ls) ≡ some (newSlot m (l .code)))) zs →
+        Each (λ l. (m : Mark) × (find (l .arrival) (cellsOf seen (x ∷ ls)) ≡ some (newSlot m (l .code)))) zs
     go [] h k = tt
     go (z ∷ zs) h k = ((k .0 .0, rw (ne-eqb (z .arrival) (x .arrival) (λ e. omega (arith, h .0))) (k .0 .1)), go zs (h .1) (k .1))
 
@@ -101,14 +101,14 @@ module _ (r : Run) (g : Good r) (q : Query) (k places : ℕ) where
     query-passed : queryRefusal head q found ≡ 0
     query-passed = first-none (queryRefusal head q found) [] (first-none _ (queryRefusal head q found ∷ []) passed .1) .0
 
-    no-fault : fault head q ≡ 0
+    no-fault : fault head (q .vector) ≡ 0
     unfolding queryRefusal
-    no-fault = first-none (fault head q) _ query-passed .0
+    no-fault = first-none (fault head (q .vector)) _ query-passed .0
 
     not-tiny : 0 < length found → tiny head ≡ false
     unfolding queryRefusal
     not-tiny l = go (tiny head) (when-none (tiny head && ltb 0 (length found)) 9 (first-none (when (tiny head && ltb 0 (length found)) 10) _
-        (first-none (fault head q) _ query-passed .1) .0))
+        (first-none (fault head (q .vector)) _ query-passed .1) .0))
       where
         go : (b : Bool) → (b && ltb 0 (length found)) ≡ false → b ≡ false
         go true e = absurd (subst T (sym (lt-ltb 0 (length found) l) ∙ e) tt)
@@ -122,9 +122,9 @@ module _ (r : Run) (g : Good r) (q : Query) (k places : ℕ) where
         (any-none (λ x. isNan (x .score)) found
         (when-none (any (λ (x : Hit). isNan (x .score)) found) 11
         (first-none (when (any (λ (x : Hit). isNan (x .score)) found) 12) []
-        (first-none (when (tiny head && ltb 0 (length found)) 10) _ (first-none (fault head q) _ query-passed .1) .1) .0))))
+        (first-none (when (tiny head && ltb 0 (length found)) 10) _ (first-none (fault head (q .vector)) _ query-passed .1) .1) .0))))
 
-    scored-as : (x : Float) → tiny head ≡ false → isNan x ≡ false → some (unless (firstOf (fault head q ∷ when (tiny head) 10 ∷ when (isNan x) 12 ∷ []))
+    scored-as : (x : Float) → tiny head ≡ false → isNan x ≡ false → some (unless (firstOf (fault head (q .vector) ∷ when (tiny head) 10 ∷ when (isNan x) 12 ∷ []))
         (scoreIs x)) ≡ some (scoreIs x)
     unfolding firstOf
     scored-as x e f = rw (no-fault, e, f)
@@ -134,7 +134,7 @@ module _ (r : Run) (g : Good r) (q : Query) (k places : ℕ) where
         some (scoreIs (scoreOf head q (l .code)))
     unfolding answerOf scoreAnswer
     scored l m =
-        let own = each-of (λ (x : LiveArrival). (n : Mark) × (find (x .arrival) (cellsIn (r .told)) ≡ some (record { mark = n; code = x .code }))) m
+        let own = each-of (λ (x : LiveArrival). (n : Mark) × (find (x .arrival) (cellsIn (r .told)) ≡ some (newSlot n (x .code)))) m
         (find-own none-seen (r .told .living) (ids-sorted (g .tracks))) in
         let some-found : 0 < length found = omega (arith, mem-length m, cells-length none-seen (r .told .living), length-map (cellsIn (r .told)) (hitOf head q)) in
         answer-machine r g (score (l .arrival) q) (any-mem (eqb (l .arrival)) (mem-map (λ (x : LiveArrival). x .arrival) m)
@@ -144,7 +144,7 @@ module _ (r : Run) (g : Good r) (q : Query) (k places : ℕ) where
         (each-of (λ (x : LiveArrival). isNan (scoreOf head q (x .code)) ≡ false) m (map-each (λ x. isNan (x .1) ≡ false)
         (λ (x : LiveArrival). (x .arrival, scoreOf head q (x .code))) (r .told .living) no-nan))
 
-    pub search-lists : Lists (record { before = r; op = search q k places }) q k
+    pub search-lists : ListsBest (record { before = r; op = search q k places }) q k
     search-lists =
         record {
           list = listed;
@@ -163,8 +163,8 @@ module _ (r : Run) (g : Good r) (q : Query) (k places : ℕ) where
 
 pub searches-sound : SearchesSound
 searches-sound x a s h l =
-    each-moment (λ m. (q : Query) (k places : ℕ) → m .op ≡ search q k places → accepts m ≡ true → Lists m q k)
+    each-moment (λ m. (q : Query) (k places : ℕ) → m .op ≡ search q k places → accepts m ≡ true → ListsBest m q k)
     (λ r g op n q k places e ok.
-    subst (λ (o : HistoryOp). Lists (record { before = r; op = o }) q k) (sym e)
+    subst (λ (o : HistoryOp). ListsBest (record { before = r; op = o }) q k) (sym e)
     (search-lists r g q k places (subst (λ (o : HistoryOp). accepts (record { before = r; op = o }) ≡ true) e ok)))
     (begin x a) (start-good x a s) h l

@@ -7,7 +7,7 @@ use native.Mathlib.Omega.{arith}
 use lib.ListN.{length}
 use lib.Dec.{eqb}
 use borrow.Author.Tests.{le-ltb, not-false}
-use Rattle.lists.specs.Lists.{tab, over}
+use Rattle.lists.specs.Lists.{tab, over, joined}
 use Rattle.lists.specs.Keep.{bit, Each}
 use Rattle.lists.proofs.Laws.{length-tab}
 use Rattle.lists.proofs.Front.{each-tab}
@@ -15,15 +15,15 @@ use Rattle.encode.specs.declared.Header.{Header}
 use Rattle.index.specs.declared.Index.{Index}
 use Rattle.index.specs.declared.Made.the-variants as Made
 use Rattle.index.specs.Arrays.{Arrays}
-use Rattle.index.specs.State.{State, headerOf, capacity, slotAt, stateOf, recordOf, overlay, joined, seconds}
+use Rattle.index.specs.State.{State, headerOf, capacity, slotAt, stateOf, recordOf, overlay, seconds}
 use Rattle.index.specs.Fit.{between, fit}
 use Rattle.index.specs.Step.{setBits, when, rising, widthSet, guarded, Outcome, step}
 use Rattle.index.specs.Call.{Result, call}
-use Rattle.index.specs.Make.{empty, makeRefusal, make}
+use Rattle.index.specs.Make.{Begun, begun, empty, makeRefusal, makeUnless, make}
 use Rattle.index.specs.Sound.{Ranged, Sound}
-use Rattle.index.specs.Read.{slotsIn, stateIn, Reading, readInto}
+use Rattle.index.specs.Read.{slotsIn, stateIn, readInto}
 use Rattle.index.proofs.Fits.{sound-fit}
-use Rattle.index.proofs.Marks.{and-left, and-right}
+use Rattle.lists.proofs.Tests.{and-left, and-right}
 use Rattle.index.proofs.Kept.{first-none, when-none, fit-kept, call-state}
 use Rattle.index.proofs.Read.{recordIn, isMade, unkeyedWord, read-words, read-rises, read-fits, read-value}
 use Rattle.histories.specs.Histories.{Making, new, withResidual, withWorkingDim, madeHeader, Start, asMade, withWidth, asRead, begin}
@@ -35,23 +35,23 @@ use Rattle.histories.proofs.Runs.{Good}
 
 -- ---- an accepted making
 
-make-accepted : (h : Header) (a : Arrays) (x : Index) → make h a ≡ Made.Index x → (makeRefusal h a ≡ 0) × (recordOf (empty h) ≡ x)
+make-accepted : (h : Header) (b : Arrays) (x : Index) (a : Arrays) → make h b ≡ begun (Made.Index x) a → (makeRefusal h b ≡ 0) × (recordOf (empty h) ≡ x) × (b ≡ a)
 unfolding make
-make-accepted h a x e = go (makeRefusal h a) e
+make-accepted h b x a e = go (makeRefusal h b) e
   where
-    go : (n : ℕ) → elim n [ zero ↦ Made.Index (recordOf (empty h)) | suc m ↦ Made.Refused (suc m) ] ≡ Made.Index x → (n ≡ 0) × (recordOf (empty h) ≡ x)
-    go zero f = (refl, ap (recordIn x) f)
-    go (suc n) f = absurd (omega (arith, ap isMade f))
+    go : (n : ℕ) → makeUnless n h b ≡ begun (Made.Index x) a → (n ≡ 0) × (recordOf (empty h) ≡ x) × (b ≡ a)
+    go zero f = (refl, ap (λ (r : Begun). recordIn x (r .answer)) f, ap (λ (r : Begun). r .arrays) f)
+    go (suc n) f = absurd (omega (arith, ap (λ (r : Begun). isMade (r .answer)) f))
 
-ranged-of : (h : Header) (a : Arrays) → makeRefusal h a ≡ 0 → between 4 6 (h .width) ≡ true → (not (h .residual) || eqb (h .width) 4) ≡ true → Ranged h
+ranged-of : (h : Header) (a : Arrays) → makeRefusal h a ≡ 0 → between 4 6 (h .bits) ≡ true → (not (h .residual) || eqb (h .bits) 4) ≡ true → Ranged h
 unfolding makeRefusal
 ranged-of h a e w r =
-    let dims : (between 1 4096 (h .dim) && between 1 (h .dim) (h .working)) ≡ true =
+    let dims : (between 1 4096 (h .dim) && between 1 (h .dim) (h .«working_dim»)) ≡ true =
     not-false _ (when-none _ 3 (first-none _ (when (eqb (capacity h a) 0) 13 ∷ []) e .0)) in
     record {
-      dim = and-left (between 1 4096 (h .dim)) (between 1 (h .dim) (h .working)) dims;
-      working = and-right (between 1 4096 (h .dim)) (between 1 (h .dim) (h .working)) dims;
-      width = w;
+      dim = and-left (between 1 4096 (h .dim)) (between 1 (h .dim) (h .«working_dim»)) dims;
+      «working_dim» = and-right (between 1 4096 (h .dim)) (between 1 (h .dim) (h .«working_dim»)) dims;
+      bits = w;
       residual = r;
     }
 
@@ -67,11 +67,11 @@ no-overlay a = refl
 empty-sound : (h : Header) (a : Arrays) → Ranged h → Sound (capacity h a) (empty h)
 empty-sound h a r = record { header = r; space = omega arith; shape = tt; positions = λ k p. sym (ap bit (le-ltb p 0 (omega arith))) }
 
-made-fit : (m : Making) (a : Arrays) (x : Index) → make (madeHeader m) a ≡ Made.Index x → (fit x a ≡ true) × (x .n ≡ 0)
+made-fit : (m : Making) (b : Arrays) (x : Index) (a : Arrays) → make (madeHeader m) b ≡ begun (Made.Index x) a → (fit x a ≡ true) × (x .n ≡ 0)
 unfolding recordOf
-made-fit m a x e =
-    let p = make-accepted (madeHeader m) a x e in (
-      ap₂ fit (sym (p .1)) (sym (no-overlay a)) ∙ sound-fit (empty (madeHeader m)) a (empty-sound (madeHeader m) a (made-ranged m a (p .0))),
+made-fit m b x a e =
+    let p = make-accepted (madeHeader m) b x a e in (
+      ap₂ fit (sym (p .1)) (sym (p .2) ∙ sym (no-overlay b)) ∙ sound-fit (empty (madeHeader m)) b (empty-sound (madeHeader m) b (made-ranged m b (p .0))),
       ap (λ (y : Index). y .n) (sym (p .1)),
     )
 
@@ -133,9 +133,9 @@ read-good file b x e =
 
 pub start-good : (x : Index) (a : Arrays) → Start x a → Good (begin x a)
 unfolding step
-start-good x a (asMade m e) = let p = made-fit m a x e in empty-good x a (p .0) (p .1)
-start-good x a (withWidth m y b w e f) =
-    let p = made-fit m b y e in
+start-good x a (asMade m b e) = let p = made-fit m b x a e in empty-good x a (p .0) (p .1)
+start-good x a (withWidth m c y b w e f) =
+    let p = made-fit m c y b e in
     let i : call y b (setBits w) .index ≡ x = ap (λ (r : Result). r .index) f in
     let k : call y b (setBits w) .arrays ≡ a = ap (λ (r : Result). r .arrays) f in
     empty-good x a (ap₂ fit (sym i) (sym k) ∙ fit-kept y b (setBits w) (p .0))
@@ -143,4 +143,4 @@ start-good x a (withWidth m y b w e f) =
     (ap₂ (λ (z : Index) (c : Arrays). stateOf z c .slots) (sym i) (sym k) ∙ ap (λ (s : State). s .slots) (call-state y b (setBits w) (p .0)) ∙
     width-slots (stateOf y b) w (none-slots y b (p .1))))
 start-good x a (asRead file b e) =
-    subst (λ (c : Arrays). Good (begin x c)) (ap (λ (r : Reading). r .arrays) e) (read-good file b x (ap (λ (r : Reading). r .answer) e))
+    subst (λ (c : Arrays). Good (begin x c)) (ap (λ (r : Begun). r .arrays) e) (read-good file b x (ap (λ (r : Begun). r .answer) e))

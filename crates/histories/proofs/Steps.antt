@@ -17,12 +17,12 @@ use Rattle.encode.specs.Coded.{fault, noSpare}
 use Rattle.index.specs.State.{Mark, dead, unkeyed, keyed, isLive, Slot, State, live}
 use Rattle.index.specs.Codec.{encoded, scoreOf, tiny}
 use Rattle.index.specs.Step as Step
-use Rattle.index.specs.Step.{Item, Query, Answer, refused, done, flag, slot, maybeSlot, maybeKey, scoreIs, firstOf, when, unless, Cell, liveFrom, holdsAt, heldBy, isHeld, slotHolding, scoreAnswer, keyAnswer, onMark, removed, Outcome, answered, withSlots, guarded, appended, marked, step}
+use Rattle.index.specs.Step.{Item, Query, Answer, refused, done, flag, slot, maybeSlot, maybeKey, scoreIs, firstOf, when, unless, Cell, liveFrom, holdsAt, heldBy, isHeld, slotHolding, scoreAnswer, keyAnswer, onMark, removed, Outcome, answered, withSlots, guarded, appended, remarked, step}
 use Rattle.index.specs.History.{HistoryOp, add, addKeyed, addMulti, relabel, remove, compact, score, search, searchKeyed, keyOf, contains, slotOf, fileLength, write, opAt}
-use Rattle.index.proofs.Marks.{and-right}
+use Rattle.lists.proofs.Tests.{and-right}
 use Rattle.index.proofs.Refusals.{either-way}
 use Rattle.index.proofs.Questions.{Slots, held-renamed, where-renamed, Asks, search-asks, searchKeyed-asks, contains-asks, slotOf-asks, length-asks, write-asks}
-use Rattle.histories.specs.Histories.{LiveArrival, Told, withLiving, carries, taken, joined, overwritten, mayRelabel, relabelled, says, ids, numbered, number, arrivalAt, read, accepted, namesLive}
+use Rattle.histories.specs.Histories.{LiveArrival, Told, withLiving, carries, taken, arrived, firstOverwritten, renames, renamed, says, ids, keptArrivals, numberNow, arrivalAt, read, accepted, namesLive}
 use Rattle.histories.proofs.Lists.{any-none}
 use Rattle.histories.proofs.Cells.{onCell, liveCell}
 use Rattle.histories.proofs.Held.{markFor, cellFor, cellsOf, allSeen, cells-live, held-count, held-taken, untaken, found, first-found, cells-overwritten, ids-overwritten, cells-removed, cells-relabelled}
@@ -68,8 +68,8 @@ read-unless g (suc n) b e = refl
 
 score-read : (g : ℕ → Option ℕ) (h : Header) (q : Query) (o : Option Slot) → read g (scoreAnswer h q o) ≡ some (scoreAnswer h q o)
 unfolding scoreAnswer
-score-read g h q none = read-unless g (firstOf (fault h q ∷ 9 ∷ [])) done refl
-score-read g h q (some s) = let x : Float = scoreOf h q (s .code) in read-unless g (firstOf (fault h q ∷ when (tiny h) 10 ∷ when (isNan x) 12 ∷ [])) (scoreIs x) refl
+score-read g h q none = read-unless g (firstOf (fault h (q .vector) ∷ 9 ∷ [])) done refl
+score-read g h q (some s) = let x : Float = scoreOf h q (s .code) in read-unless g (firstOf (fault h (q .vector) ∷ when (tiny h) 10 ∷ when (isNan x) 12 ∷ [])) (scoreIs x) refl
 
 -- ---- a call
 
@@ -82,7 +82,7 @@ module _ (ws : List ℕ) (t : Told) (room : ℕ) (cascade : Bool) (ss : List Slo
   full = leb room (length ss)
 
   abbrev wsAfter : HistoryOp → Answer → List ℕ
-  wsAfter op b = cond (accepted b) (numbered op t ws) ws
+  wsAfter op b = cond (accepted b) (keptArrivals op t ws) ws
 
   abbrev toldAfter : HistoryOp → Answer → Told
   toldAfter op b = cond (accepted b) (says op t) t
@@ -122,13 +122,13 @@ module _ (ws : List ℕ) (t : Told) (room : ℕ) (cascade : Bool) (ss : List Slo
   abbrev newcomer : Option ℕ → Item → LiveArrival
   newcomer key v = record { arrival = t .next; key = key; code = encoded (t .header) noSpare v }
 
-  grown : (op : HistoryOp) (key : Option ℕ) (m : Mark) (v : Item) → numbered op t ws ≡ ws ++ (t .next ∷ []) → says op t ≡ joined t key v →
+  grown : (op : HistoryOp) (key : Option ℕ) (m : Mark) (v : Item) → keptArrivals op t ws ≡ ws ++ (t .next ∷ []) → says op t ≡ arrived t key v →
       m ≡ markFor (allSeen none-seen (t .living)) key →
       answerOf full t op ≡ appending full t v → Taken op (appended room s m v)
   unfolding appended guarded
-  grown op key m v e f c a = rw c (go (firstOf (fault (t .header) v ∷ when full 8 ∷ [])) refl)
+  grown op key m v e f c a = rw c (go (firstOf (fault (t .header) (v .vector) ∷ when full 8 ∷ [])) refl)
     where
-      go : (n : ℕ) → firstOf (fault (t .header) v ∷ when full 8 ∷ []) ≡ n →
+      go : (n : ℕ) → firstOf (fault (t .header) (v .vector) ∷ when full 8 ∷ []) ≡ n →
           Taken op (guarded s n (record {
             state = withSlots s false (ss ++ (cellFor (allSeen none-seen (t .living))
                 (newcomer key v) .slot ∷ []));
@@ -149,9 +149,9 @@ module _ (ws : List ℕ) (t : Told) (room : ℕ) (cascade : Bool) (ss : List Slo
   held-now j = sym (held-renamed j (arrivalOf tr) (liveFrom 0 ss)) ∙ ap (heldBy j) (cells-seen tr)
 
   -- a question of the live slots tells nothing, whatever is answered
-  asked : (op : HistoryOp) {ask : Header → List Cell → Answer} → Asks (opAt (number ws) op) ask → ask (t .header) (cellsIn t) ≡ answerOf full t op →
-      numbered op t ws ≡ ws → says op t ≡ t →
-      Taken op (step room s (opAt (number ws) op))
+  asked : (op : HistoryOp) {ask : Header → List Cell → Answer} → Asks (opAt (numberNow ws) op) ask → ask (t .header) (cellsIn t) ≡ answerOf full t op →
+      keptArrivals op t ws ≡ ws → says op t ≡ t →
+      Taken op (step room s (opAt (numberNow ws) op))
   asked op {ask} asks m e f =
       let b : Answer = ask (t .header) (liveFrom 0 ss) in
       subst (Taken op) (sym (asks .asked room s))
@@ -160,32 +160,32 @@ module _ (ws : List ℕ) (t : Told) (room : ℕ) (cascade : Bool) (ss : List Slo
       ap some (asks .blind (t .header) .renamed (arrivalOf tr) (liveFrom 0 ss) ∙ ap (ask (t .header)) (cells-seen tr) ∙ m)))
 
   -- a change of marks, with a yes or no
-  marking : (op : HistoryOp) (f : Mark → Mark) (b : Bool) (ls : List LiveArrival) → numbered op t ws ≡ ws → (b ≡ true → says op t ≡ withLiving t ls) →
+  marking : (op : HistoryOp) (f : Mark → Mark) (b : Bool) (ls : List LiveArrival) → keptArrivals op t ws ≡ ws → (b ≡ true → says op t ≡ withLiving t ls) →
       (b ≡ false → says op t ≡ t) →
       ((m : Mark) → isLive m ≡ false → isLive (f m) ≡ false) → (b ≡ true → keep liveCell (map (onCell (onMark f)) (cellsIn t)) ≡ cellsOf none-seen ls) →
       answerOf full t op ≡ flag b →
-      Taken op (marked s b f)
-  unfolding marked
+      Taken op (remarked s b 0 f)
+  unfolding remarked guarded
   marking op f true ls e y n d c a = changed op (onMark f) cascade (flag true) ls e (y refl) (λ x. d (x .mark)) (c refl) (ap some (sym a))
   marking op f false ls e y n d c a = quiet op (flag false) e (n refl) (λ l. ap some (sym a))
 
-  may-now : (j k : ℕ) → (isHeld j (cellsIn t) && (eqb j k || not (isHeld k (cellsIn t)))) ≡ mayRelabel j k (t .living)
+  may-now : (j k : ℕ) → (isHeld j (cellsIn t) && (eqb j k || not (isHeld k (cellsIn t)))) ≡ renames j k (t .living)
   may-now j k = ap₂ (λ (x y : Bool). x && (eqb j k || not y)) (held-taken j none-seen (t .living)) (held-taken k none-seen (t .living))
 
   relabel-taken : (j k : ℕ) → Taken (relabel j k) (step room s (Step.relabel j k))
-  unfolding step says numbered answerOf
+  unfolding step says keptArrivals answerOf
   relabel-taken j k =
       let ls : List LiveArrival = t .living in
       rw (held-now j, held-now k, may-now j k)
-      (marking (relabel j k) (Step.relabelled j k) (mayRelabel j k ls) (map (relabelled j k) ls) refl (λ e. rw e) (λ e. rw e) (relabelled-dead j k)
+      (marking (relabel j k) (Step.relabelled j k) (renames j k ls) (map (renamed j k) ls) refl (λ e. rw e) (λ e. rw e) (relabelled-dead j k)
       (λ e.
       ap (keep liveCell) (cells-relabelled j k none-seen none-seen ls refl (λ i n m. refl)
       (new-is-old j k ls (and-right (taken j ls) (eqb j k || not (taken k ls)) e))) ∙
-      keep-all liveCell (cellsOf none-seen (map (relabelled j k) ls)) (cells-live none-seen (map (relabelled j k) ls)))
+      keep-all liveCell (cellsOf none-seen (map (renamed j k) ls)) (cells-live none-seen (map (renamed j k) ls)))
       (ap flag (may-now j k)))
 
   remove-taken : (j : ℕ) → Taken (remove j) (step room s (Step.remove j))
-  unfolding step says numbered answerOf
+  unfolding step says keptArrivals answerOf
   remove-taken j =
       let ls : List LiveArrival = t .living in
       rw (held-now j, held-taken j none-seen ls)
@@ -193,7 +193,7 @@ module _ (ws : List ℕ) (t : Told) (room : ℕ) (cascade : Bool) (ss : List Slo
       (λ e. cells-removed j none-seen none-seen ls (λ i n. refl)) (ap flag (held-taken j none-seen ls)))
 
   multi-taken : (j : ℕ) (v : Item) → Taken (addMulti j v) (step room s (Step.addMulti j v))
-  unfolding step says numbered answerOf
+  unfolding step says keptArrivals answerOf
   multi-taken j v =
       grown (addMulti j v) (some j) (keyed j (heldBy j (liveFrom 0 ss))) v refl refl
       (ap (keyed j) (held-now j ∙ held-count j none-seen (t .living) ∙ sym (add-zero (count (carries j) (t .living))))) refl
@@ -207,7 +207,7 @@ module _ (ws : List ℕ) (t : Told) (room : ℕ) (cascade : Bool) (ss : List Slo
 
   -- of a key that no live arrival has: an append
   keyed-first : (j : ℕ) (v : Item) → slotHolding j 0 (liveFrom 0 ss) ≡ none → Taken (addKeyed j v) (appended room s (keyed j 0) v)
-  unfolding says numbered answerOf
+  unfolding says keptArrivals answerOf
   keyed-first j v e =
       let free : taken j (t .living) ≡ false = sym (first-taken j none e) in
       grown (addKeyed j v) (some j) (keyed j 0) v (rw free) (rw free) (ap (keyed j) (omega (arith, untaken j (t .living) free)))
@@ -215,9 +215,9 @@ module _ (ws : List ℕ) (t : Told) (room : ℕ) (cascade : Bool) (ss : List Slo
 
   -- of a key that one has: an overwrite
   keyed-again : (j : ℕ) (v : Item) (i : ℕ) → slotHolding j 0 (liveFrom 0 ss) ≡ some i →
-      Taken (addKeyed j v) (guarded s (fault (t .header) v) (record { state = withSlots s false (map (Step.overwritten (t .header) j v) ss); answer = slot i }))
-  unfolding says numbered answerOf guarded
-  keyed-again j v i e = go (fault (t .header) v) (ap (appendingOrOver full t v) (sym (first-seen j) ∙ ap (Option·map (arrivalOf tr)) e))
+      Taken (addKeyed j v) (guarded s (fault (t .header) (v .vector)) (record { state = withSlots s false (map (Step.overwritten (t .header) j v) ss); answer = slot i }))
+  unfolding says keptArrivals answerOf guarded
+  keyed-again j v i e = go (fault (t .header) (v .vector)) (ap (appendingOrOver full t v) (sym (first-seen j) ∙ ap (Option·map (arrivalOf tr)) e))
     where
       held : taken j (t .living) ≡ true
       held = sym (first-taken j (some i) e)
@@ -230,9 +230,9 @@ module _ (ws : List ℕ) (t : Told) (room : ℕ) (cascade : Bool) (ss : List Slo
       go : (n : ℕ) → answerOf full t (addKeyed j v) ≡ unless n (slot (arrivalOf tr i)) →
           Taken (addKeyed j v) (guarded s n (record { state = withSlots s false (map (Step.overwritten (t .header) j v) ss); answer = slot i }))
       go zero a =
-          changed (addKeyed j v) (Step.overwritten (t .header) j v) false (slot i) (overwritten (t .header) j v (t .living)) (rw held) (rw held) (λ x d. d)
+          changed (addKeyed j v) (Step.overwritten (t .header) j v) false (slot i) (firstOverwritten (t .header) j v (t .living)) (rw held) (rw held) (λ x d. d)
           (ap (keep liveCell) (cells-overwritten (t .header) j v none-seen refl (t .living)) ∙
-          keep-all liveCell (cellsOf none-seen (overwritten (t .header) j v (t .living))) (cells-live none-seen (overwritten (t .header) j v (t .living))))
+          keep-all liveCell (cellsOf none-seen (firstOverwritten (t .header) j v (t .living))) (cells-live none-seen (firstOverwritten (t .header) j v (t .living))))
           (rw (ids-overwritten (t .header) j v (t .living), there, a))
       go (suc n) a = quiet (addKeyed j v) (refused (suc n)) refl refl (λ l. ap some (sym a))
 
@@ -240,23 +240,23 @@ module _ (ws : List ℕ) (t : Told) (room : ℕ) (cascade : Bool) (ss : List Slo
   unfolding step
   keyed-taken j v = either-way (Taken (addKeyed j v)) (slotHolding j 0 (liveFrom 0 ss)) _ _ (keyed-first j v) (keyed-again j v)
 
-  about : (a : ℕ) → namesLive (t .living) (keyOf a) ≡ true → getElem? ss (number ws a) ≡ find a (cellsIn t)
+  about : (a : ℕ) → namesLive (t .living) (keyOf a) ≡ true → getElem? ss (numberNow ws a) ≡ find a (cellsIn t)
   about a n = live-slot tr a n
 
-  score-taken : (a : ℕ) (q : Query) → Taken (score a q) (step room s (Step.score (number ws a) q))
-  unfolding step says numbered answerOf
+  score-taken : (a : ℕ) (q : Query) → Taken (score a q) (step room s (Step.score (numberNow ws a) q))
+  unfolding step says keptArrivals answerOf
   score-taken a q =
-      quiet (score a q) (scoreAnswer (t .header) q (getElem? ss (number ws a))) (cond-same (accepted (scoreAnswer (t .header) q (getElem? ss (number ws a)))) ws)
-      (cond-same (accepted (scoreAnswer (t .header) q (getElem? ss (number ws a)))) t)
-      (λ n. score-read (arrivalAt ws (ids (t .living))) (t .header) q (getElem? ss (number ws a)) ∙
+      quiet (score a q) (scoreAnswer (t .header) q (getElem? ss (numberNow ws a))) (cond-same (accepted (scoreAnswer (t .header) q (getElem? ss (numberNow ws a)))) ws)
+      (cond-same (accepted (scoreAnswer (t .header) q (getElem? ss (numberNow ws a)))) t)
+      (λ n. score-read (arrivalAt ws (ids (t .living))) (t .header) q (getElem? ss (numberNow ws a)) ∙
       ap (λ (o : Option Slot). some (scoreAnswer (t .header) q o)) (about a n))
 
   compact-taken : Taken compact (step room s Step.compact)
-  unfolding step says numbered answerOf
+  unfolding step says keptArrivals answerOf
   compact-taken = record { header = refl; told = refl; tracks = tracks-compacted tr; answer = λ n. refl }
 
-  pub step-taken : (op : HistoryOp) → Taken op (step room s (opAt (number ws) op))
-  unfolding step says numbered answerOf
+  pub step-taken : (op : HistoryOp) → Taken op (step room s (opAt (numberNow ws) op))
+  unfolding step says keptArrivals answerOf
   step-taken (add v) = grown (add v) none (unkeyed 0) v refl refl refl refl
   step-taken (addKeyed j v) = keyed-taken j v
   step-taken (addMulti j v) = multi-taken j v
@@ -266,7 +266,7 @@ module _ (ws : List ℕ) (t : Told) (room : ℕ) (cascade : Bool) (ss : List Slo
   step-taken (score a q) = score-taken a q
   step-taken (search q k places) = asked (search q k places) (search-asks q k places) refl refl refl
   step-taken (searchKeyed q k places) = asked (searchKeyed q k places) (searchKeyed-asks q k places) refl refl refl
-  step-taken (keyOf a) = quiet (keyOf a) (maybeKey (keyAnswer (getElem? ss (number ws a)))) refl refl
+  step-taken (keyOf a) = quiet (keyOf a) (maybeKey (keyAnswer (getElem? ss (numberNow ws a)))) refl refl
       (λ n. ap (λ (o : Option Slot). some (maybeKey (keyAnswer o))) (about a n))
   step-taken (contains j) = asked (contains j) (contains-asks j) refl refl refl
   step-taken (slotOf j i) = asked (slotOf j i) (slotOf-asks j i) refl refl refl

@@ -10,12 +10,12 @@ use lib.ListN.{length, getD, getElem?, length-append, length-map}
 use lib.Seq.{getD-at}
 use lib.Dec.{T, ltb, eqb}
 use borrow.Author.Tests.{eqb-true, le-ltb}
-use Rattle.lists.specs.Keep.{bit, keep, Each}
+use Rattle.lists.specs.Keep.{bit, keep, Each, any}
 use Rattle.lists.proofs.Keep.{each-append, each-weaken, each-mem, count-append}
 use Rattle.index.specs.State.{Slot, live}
-use Rattle.index.specs.Step.{any, Cell, liveFrom, rising, compacted}
+use Rattle.index.specs.Step.{Cell, liveFrom, rising, compacted}
 use Rattle.index.proofs.Questions.{rename}
-use Rattle.histories.specs.Histories.{LiveArrival, ids, number, arrivalAt, liveArrival, liveBy, isLive}
+use Rattle.histories.specs.Histories.{LiveArrival, ids, numberNow, arrivalAt, liveArrival, liveBy, lives}
 use Rattle.histories.proofs.Lists.{each-of, mem-map}
 use Rattle.histories.proofs.Arrivals.{Sorted, sorted-more, number-all, at-number, number-at, read-number, number-first, number-later}
 use Rattle.histories.proofs.Cells.{onCell, liveCell, cellIds, cells-read, cells-below, cells-map, cells-more, cells-slots, cells-again, each-ids, sorted-ids}
@@ -46,8 +46,8 @@ module _ {ws : List ℕ} {next : ℕ} {ss : List Slot} {ls : List LiveArrival} (
   live-ids = ap cellIds (t .cells) ∙ cells-ids none-seen ls
 
   -- the number of a live arrival is its place
-  pub live-numbers : Each (λ a. getElem? ws (number ws a) ≡ some a) (ids ls)
-  live-numbers = subst (Each (λ a. getElem? ws (number ws a) ≡ some a)) live-ids (each-ids (λ a. getElem? ws (number ws a) ≡ some a) ws ss
+  pub live-numbers : Each (λ a. getElem? ws (numberNow ws a) ≡ some a) (ids ls)
+  live-numbers = subst (Each (λ a. getElem? ws (numberNow ws a) ≡ some a)) live-ids (each-ids (λ a. getElem? ws (numberNow ws a) ≡ some a) ws ss
       (at-number ws (t .sorted)))
 
   pub ids-sorted : Sorted (ids ls)
@@ -152,7 +152,7 @@ any-above x a (z ∷ zs) h e = go (eqb a z) refl e (any-above x a zs (h .1))
     go true f e ih = omega (arith, eqb-true a z f, h .0)
     go false f e ih = ih e
 
-find-number : (ws : List ℕ) (ss : List Slot) (a : ℕ) → Sorted ws → any (eqb a) (cellIds (liveBy ws ss)) ≡ true → getElem? ss (number ws a) ≡ find a (liveBy ws ss)
+find-number : (ws : List ℕ) (ss : List Slot) (a : ℕ) → Sorted ws → any (eqb a) (cellIds (liveBy ws ss)) ≡ true → getElem? ss (numberNow ws a) ≡ find a (liveBy ws ss)
 unfolding any
 find-number [] ss a s e = absurd (subst T (sym e) tt)
 find-number (w ∷ ws) [] a s e = absurd (subst T (sym e) tt)
@@ -161,17 +161,17 @@ find-number (w ∷ ws) (x ∷ ss) a s e =
     (λ f. ap (getElem? (x ∷ ss)) (number-later w a ws (any-above w a (cellIds (liveBy ws ss)) (each-ids (λ b. w < b) ws ss (s .0)) f)) ∙
     find-number ws ss a (s .1) f) e
   where
-    go : (b : Bool) → (any (eqb a) (cellIds (liveBy ws ss)) ≡ true → getElem? (x ∷ ss) (number (w ∷ ws) a) ≡ find a (liveBy ws ss)) →
+    go : (b : Bool) → (any (eqb a) (cellIds (liveBy ws ss)) ≡ true → getElem? (x ∷ ss) (numberNow (w ∷ ws) a) ≡ find a (liveBy ws ss)) →
         any (eqb a) (cellIds (cond b (record { number = w; slot = x } ∷ liveBy ws ss) (liveBy ws ss))) ≡ true →
-        getElem? (x ∷ ss) (number (w ∷ ws) a) ≡ find a (cond b (record { number = w; slot = x } ∷ liveBy ws ss) (liveBy ws ss))
+        getElem? (x ∷ ss) (numberNow (w ∷ ws) a) ≡ find a (cond b (record { number = w; slot = x } ∷ liveBy ws ss) (liveBy ws ss))
     go true later f = at (eqb a w) refl f
       where
         at : (b : Bool) → eqb a w ≡ b → (b || any (eqb a) (cellIds (liveBy ws ss))) ≡ true →
-            getElem? (x ∷ ss) (number (w ∷ ws) a) ≡ cond b (some x) (find a (liveBy ws ss))
-        at true g f = ap (λ (c : ℕ). getElem? (x ∷ ss) (number (w ∷ ws) c)) (eqb-true a w g) ∙ ap (getElem? (x ∷ ss)) (number-first w ws (s .0))
+            getElem? (x ∷ ss) (numberNow (w ∷ ws) a) ≡ cond b (some x) (find a (liveBy ws ss))
+        at true g f = ap (λ (c : ℕ). getElem? (x ∷ ss) (numberNow (w ∷ ws) c)) (eqb-true a w g) ∙ ap (getElem? (x ∷ ss)) (number-first w ws (s .0))
         at false g f = later f
     go false later f = later f
 
-pub live-slot : {ws : List ℕ} {next : ℕ} {ss : List Slot} {ls : List LiveArrival} → Tracks ws next ss ls → (a : ℕ) → isLive ls a ≡ true →
-    getElem? ss (number ws a) ≡ find a (cellsOf none-seen ls)
+pub live-slot : {ws : List ℕ} {next : ℕ} {ss : List Slot} {ls : List LiveArrival} → Tracks ws next ss ls → (a : ℕ) → lives ls a ≡ true →
+    getElem? ss (numberNow ws a) ≡ find a (cellsOf none-seen ls)
 live-slot {ws} {next} {ss} {ls} t a e = find-number ws ss a (t .sorted) (ap (any (eqb a)) (live-ids t) ∙ e) ∙ ap (find a) (t .cells)

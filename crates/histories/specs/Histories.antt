@@ -6,7 +6,7 @@
 --   arrival       "a read index's slots arrive as 0, 1, 2 in slot order; a new index has none; each accepted append is the next, an overwrite none".
 --   live arrival  "live from its arrival until a whole-key removal takes it". Which these are, with key and code, is said by the start (`begin`: none, or
 --                 what was read) and from then on by the calls alone: `Told` and `says` below look at no array. That the arrays agree is law `Faithful`.
---   number        "how many lower arrivals were not already dead at the last compaction, all of them if there was none": `number`.
+--   number        "how many lower arrivals were not already dead at the last compaction, all of them if there was none": `numberNow`.
 --   legal call    it "names live slots only, each by arrival": `namesLive`. No relabelling is ruled out: the mission's proviso always holds (`Faithful`,
 --                 field `held`).
 -- The claims are `SameAnswers` and `SearchesSound`; laws beside them stand at the end. docs/HISTORIES.md leads through this file.
@@ -19,7 +19,7 @@ use lib.ListN.{length, getElem?}
 use lib.Dec.{ltb, eqb}
 use lib.Ieee.{Float}
 use Rattle.lists.specs.Lists.{tab}
-use Rattle.lists.specs.Keep.{keep, count, Each}
+use Rattle.lists.specs.Keep.{keep, count, Each, any}
 use Rattle.choose.specs.Falling.{Falls}
 use Rattle.score.specs.Order.{orderNumber}
 use Rattle.encode.specs.declared.Header.{Header}
@@ -31,10 +31,10 @@ use Rattle.index.specs.State.{Slot, live, headerOf, stateOf}
 use Rattle.index.specs.Codec.{encoded, scoreOf}
 use Rattle.index.specs.Fit.{fit}
 use Rattle.index.specs.File.{fileOf}
-use Rattle.index.specs.Step.{Item, Query, Answer, refused, done, flag, slot, maybeSlot, maybeKey, scoreIs, hits, keyHits, size, bytes, any, Cell, liveFrom, keyOfMark, rising, setBits}
+use Rattle.index.specs.Step.{Item, Query, Answer, refused, done, flag, slot, maybeSlot, maybeKey, scoreIs, hits, keyHits, size, bytes, Cell, liveFrom, keyOfMark, rising, setBits}
 use Rattle.index.specs.Call.{Result, call}
 use Rattle.index.specs.Answers.{result}
-use Rattle.index.specs.Make.{newHeader, make}
+use Rattle.index.specs.Make.{newHeader, begun, make}
 use Rattle.index.specs.Read.{readInto}
 use Rattle.index.specs.History.{HistoryOp, add, addKeyed, addMulti, relabel, remove, compact, score, search, searchKeyed, keyOf, contains, slotOf, fileLength, write, opAt}
 
@@ -70,31 +70,31 @@ abbrev pub taken : (key : ℕ) → List LiveArrival → Bool
 taken j ls = any (carries j) ls
 
 -- an accepted append: "each accepted append is the next"; "Spare bits are 0 after an append"
-abbrev pub joined : Told → (key : Option ℕ) → Item → Told
-joined t key v =
+abbrev pub arrived : Told → (key : Option ℕ) → Item → Told
+arrived t key v =
     record { header = t .header; next = suc (t .next); living = t .living ++ (record { arrival = t .next; key = key; code = encoded (t .header) noSpare v } ∷ []) }
 
 -- an overwrite goes to the lowest live arrival of the key and "keeps" its spare bits
-abbrev pub recoded : Header → Item → LiveArrival → LiveArrival
-recoded h v l = record { arrival = l .arrival; key = l .key; code = encoded h (spareOf h (l .code)) v }
+abbrev pub codedAnew : Header → Item → LiveArrival → LiveArrival
+codedAnew h v l = record { arrival = l .arrival; key = l .key; code = encoded h (spareOf h (l .code)) v }
 
-abbrev pub overwritten : Header → (key : ℕ) → Item → List LiveArrival → List LiveArrival
-overwritten h j v [] = []
-overwritten h j v (l ∷ ls) = cond (carries j l) (recoded h v l ∷ ls) (l ∷ overwritten h j v ls)
+abbrev pub firstOverwritten : Header → (key : ℕ) → Item → List LiveArrival → List LiveArrival
+firstOverwritten h j v [] = []
+firstOverwritten h j v (l ∷ ls) = cond (carries j l) (codedAnew h v l ∷ ls) (l ∷ firstOverwritten h j v ls)
 
 -- relabelling an old key that is held, to itself or to a key that is not held
-abbrev pub mayRelabel : (old new : ℕ) → List LiveArrival → Bool
-mayRelabel j k ls = taken j ls && (eqb j k || not (taken k ls))
+abbrev pub renames : (old new : ℕ) → List LiveArrival → Bool
+renames j k ls = taken j ls && (eqb j k || not (taken k ls))
 
-abbrev pub relabelled : (old new : ℕ) → LiveArrival → LiveArrival
-relabelled j k l = record { arrival = l .arrival; key = cond (carries j l) (some k) (l .key); code = l .code }
+abbrev pub renamed : (old new : ℕ) → LiveArrival → LiveArrival
+renamed j k l = record { arrival = l .arrival; key = cond (carries j l) (some k) (l .key); code = l .code }
 
 -- what an accepted call adds to what is told
 unfoldable pub says : HistoryOp → Told → Told
-says (add v) t = joined t none v
-says (addKeyed j v) t = cond (taken j (t .living)) (withLiving t (overwritten (t .header) j v (t .living))) (joined t (some j) v)
-says (addMulti j v) t = joined t (some j) v
-says (relabel j k) t = withLiving t (cond (mayRelabel j k (t .living)) (map (relabelled j k) (t .living)) (t .living))
+says (add v) t = arrived t none v
+says (addKeyed j v) t = cond (taken j (t .living)) (withLiving t (firstOverwritten (t .header) j v (t .living))) (arrived t (some j) v)
+says (addMulti j v) t = arrived t (some j) v
+says (relabel j k) t = withLiving t (cond (renames j k (t .living)) (map (renamed j k) (t .living)) (t .living))
 says (remove j) t = withLiving t (keep (λ l. not (carries j l)) (t .living))
 says compact t = t
 says (score a q) t = t
@@ -143,27 +143,27 @@ ids ls = map (λ l. l .arrival) ls
 
 -- The arrivals that were "not already dead at the last compaction", in order of arrival, after an accepted call: a compaction leaves the live ones, an
 -- append is one more.
-unfoldable pub numbered : HistoryOp → Told → List ℕ → List ℕ
-numbered op t ws = cond (isCompact op) (ids (t .living)) (cond (isAppend op (t .living)) (ws ++ (t .next ∷ [])) ws)
+unfoldable pub keptArrivals : HistoryOp → Told → List ℕ → List ℕ
+keptArrivals op t ws = cond (isCompact op) (ids (t .living)) (cond (isAppend op (t .living)) (ws ++ (t .next ∷ [])) ws)
 
 -- "how many lower arrivals were not already dead at the last compaction"
-abbrev pub number : (arrivals : List ℕ) → (arrival : ℕ) → ℕ
-number ws a = count (λ b. ltb b a) ws
+abbrev pub numberNow : (arrivals : List ℕ) → (arrival : ℕ) → ℕ
+numberNow ws a = count (λ b. ltb b a) ws
 
 -- "the live arrival that then has this number", of these live ones
-abbrev pub arrivalAt : (arrivals live : List ℕ) → (number : ℕ) → Option ℕ
+abbrev pub arrivalAt : (arrivals live : List ℕ) → (numberNow : ℕ) → Option ℕ
 arrivalAt ws [] i = none
-arrivalAt ws (a ∷ more) i = cond (eqb (number ws a) i) (some a) (arrivalAt ws more i)
+arrivalAt ws (a ∷ more) i = cond (eqb (numberNow ws a) i) (some a) (arrivalAt ws more i)
 
 -- ---- answers, "slots read by arrival"
 
-abbrev pub both : Option (ℕ × Float) → Option (List (ℕ × Float)) → Option (List (ℕ × Float))
-both none o = none
-both (some x) o = Option·map (λ xs. x ∷ xs) o
+abbrev pub hitAnd : Option (ℕ × Float) → Option (List (ℕ × Float)) → Option (List (ℕ × Float))
+hitAnd none o = none
+hitAnd (some x) o = Option·map (λ xs. x ∷ xs) o
 
 abbrev pub hitsRead : (ℕ → Option ℕ) → List (ℕ × Float) → Option (List (ℕ × Float))
 hitsRead f [] = some []
-hitsRead f (x ∷ xs) = both (Option·map (λ a. (a, x .1)) (f (x .0))) (hitsRead f xs)
+hitsRead f (x ∷ xs) = hitAnd (Option·map (λ a. (a, x .1)) (f (x .0))) (hitsRead f xs)
 
 -- An answer with each slot's number made an arrival by f; none where f has no arrival for a number. A keyed search answers keys, and "slots in a file
 -- stay as written".
@@ -205,7 +205,7 @@ pub record Run : Type 0 where
 
 -- a call on the run: "handed the slot's number at that moment"
 unfoldable pub called : Run → HistoryOp → Result
-called r op = call (r .index) (r .arrays) (opAt (number (r .arrivals)) op)
+called r op = call (r .index) (r .arrays) (opAt (numberNow (r .arrivals)) op)
 
 -- the run after the call: a refused one tells nothing
 unfoldable pub advance : Run → HistoryOp → Run
@@ -214,7 +214,7 @@ advance r op =
     record {
       index = o .index;
       arrays = o .arrays;
-      arrivals = cond (accepted (o .answer)) (numbered op (r .told) (r .arrivals)) (r .arrivals);
+      arrivals = cond (accepted (o .answer)) (keptArrivals op (r .told) (r .arrivals)) (r .arrivals);
       told = cond (accepted (o .answer)) (says op (r .told)) (r .told);
     }
 
@@ -262,9 +262,10 @@ madeHeader (withWorkingDim dim working seed) = newHeader dim working seed false
 -- The record x and the arrays a of a start: accepted calls, over any arrays. "a new index is just made, its width set or left as made; a read one comes from an
 -- accepted reading".
 pub data Start (x : Index) (a : Arrays) : Type 0 where
-  asMade : (m : Making) → make (madeHeader m) a ≡ Made.Index x → Start x a
-  withWidth : (m : Making) (y : Index) (b : Arrays) (width : ℕ) → make (madeHeader m) b ≡ Made.Index y → call y b (setBits width) ≡ result x a done → Start x a
-  asRead : (file : List ℕ) (b : Arrays) → readInto b file ≡ record { answer = Made.Index x; arrays = a } → Start x a
+  asMade : (m : Making) (b : Arrays) → make (madeHeader m) b ≡ begun (Made.Index x) a → Start x a
+  withWidth : (m : Making) (b : Arrays) (y : Index) (c : Arrays) (width : ℕ) → make (madeHeader m) b ≡ begun (Made.Index y) c → call y c (setBits width) ≡
+      result x a done → Start x a
+  asRead : (file : List ℕ) (b : Arrays) → readInto b file ≡ begun (Made.Index x) a → Start x a
 
 abbrev pub liveArrival : Cell → LiveArrival
 liveArrival c = record { arrival = c .number; key = keyOfMark (c .slot .mark); code = c .slot .code }
@@ -282,8 +283,8 @@ begin x a =
 
 -- ---- legal histories
 
-abbrev pub isLive : List LiveArrival → (arrival : ℕ) → Bool
-isLive ls a = any (eqb a) (ids ls)
+abbrev pub lives : List LiveArrival → (arrival : ℕ) → Bool
+lives ls a = any (eqb a) (ids ls)
 
 -- "It names live slots only, each by arrival"
 abbrev pub namesLive : List LiveArrival → HistoryOp → Bool
@@ -293,10 +294,10 @@ namesLive ls (addMulti j v) = true
 namesLive ls (relabel j k) = true
 namesLive ls (remove j) = true
 namesLive ls compact = true
-namesLive ls (score a q) = isLive ls a
+namesLive ls (score a q) = lives ls a
 namesLive ls (search q k places) = true
 namesLive ls (searchKeyed q k places) = true
-namesLive ls (keyOf a) = isLive ls a
+namesLive ls (keyOf a) = lives ls a
 namesLive ls (contains j) = true
 namesLive ls (slotOf j i) = true
 namesLive ls fileLength = true
@@ -330,7 +331,7 @@ orderOf x = orderNumber (x .1)
 abbrev pub times : (arrival : ℕ) → List (ℕ × Float) → ℕ
 times a xs = count (λ x. eqb (x .0) a) xs
 
-pub record Lists (m : Moment) (q : Query) (k : ℕ) : Type 0 where
+pub record ListsBest (m : Moment) (q : Query) (k : ℕ) : Type 0 where
   pub list : List (ℕ × Float)
   pub answered : answer m ≡ some (hits list)
   -- "lists exactly min(max(k,1), live) slots"
@@ -350,7 +351,7 @@ pub record Lists (m : Moment) (q : Query) (k : ℕ) : Type 0 where
 abbrev pub SearchesSound : Type 0
 SearchesSound =
     (x : Index) (a : Arrays) → Start x a → (h : History) → Legal (begin x a) h →
-    Each (λ m. (q : Query) (k places : ℕ) → m .op ≡ search q k places → accepts m ≡ true → Lists m q k) (moments (begin x a) h)
+    Each (λ m. (q : Query) (k places : ℕ) → m .op ≡ search q k places → accepts m ≡ true → ListsBest m q k) (moments (begin x a) h)
 
 -- ---- laws beside the claims
 
@@ -370,7 +371,7 @@ pub record Faithful (r : Run) : Type 0 where
   pub header : headerOf (r .index) ≡ r .told .header
   -- the arrivals not already dead at the last compaction are those of the slots in use, and the number that is handed for a live arrival is its place among them
   pub inUse : length (r .arrivals) ≡ r .index .n
-  pub numbers : Each (λ a. getElem? (r .arrivals) (number (r .arrivals) a) ≡ some a) (ids (r .told .living))
+  pub numbers : Each (λ a. getElem? (r .arrivals) (numberNow (r .arrivals) a) ≡ some a) (ids (r .told .living))
   -- live marks, keys and codes of the arrays are as the calls say
   pub marks : map liveArrival (liveBy (r .arrivals) (slotsOf r)) ≡ r .told .living
   pub live : r .index .live ≡ length (r .told .living)

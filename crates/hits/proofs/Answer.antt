@@ -16,10 +16,10 @@ use Rattle.unit.specs.Calls.{rotatable}
 use Rattle.index.specs.declared.Found.{Found}
 use Rattle.index.specs.declared.Found.the-variants as Found
 use Rattle.index.specs.Step.{firstOf}
-use Rattle.index.proofs.Marks.{and-left, and-right}
-use Rattle.choose_slots.specs.Slots.{listed, answered}
+use Rattle.lists.proofs.Tests.{and-left, and-right}
+use Rattle.choose_slots.specs.Slots.{listed, listedWithin}
 use Rattle.hits.specs.Hits.{chosen, listRefusal, shown, listAnswer, ready}
-use Rattle.hits.specs.Steps.{scoreEntry, orderEntry, anyNan, WritesHits, Lists}
+use Rattle.hits.specs.Steps.{scoreEntry, orderEntry, anyNan, WritesHits, ListsHits}
 use Rattle.hits.proofs.Entering.{no-nan}
 use Rattle.hits.proofs.Choosing.{picks, chosen-slots, chosen-scores, listed-picks, picks-scores}
 
@@ -74,10 +74,10 @@ module _ (score : ℕ → Float) (marks : List ℕ) (n k : ℕ) (slots : List �
   pub not-ready : (ok : Bool) → ok ≡ false → Answers ok (Found.Refused 13) slots scores
   not-ready ok e = nothing ok 13 (ap (listRefusal score marks n) e ∙ refused-ready score marks n) refl
 
-  pub when-ready : (ok : Bool) → ok ≡ true → (r : Found) (next : List ℕ) (after : List Float) → Lists score marks n k slots next scores after r → Answers ok r next after
+  pub when-ready : (ok : Bool) → ok ≡ true → (r : Found) (next : List ℕ) (after : List Float) → ListsHits score marks n k slots next scores after r → Answers ok r next after
   when-ready ok e r next after h = subst (λ (b : Bool). Answers b r next after) (sym e) (h .answers, (h .slots-in, h .scores-in))
 
-  pub some-nan : anyNan score marks n ≡ true → Lists score marks n k slots slots scores scores (Found.Refused 12)
+  pub some-nan : anyNan score marks n ≡ true → ListsHits score marks n k slots slots scores scores (Found.Refused 12)
   some-nan e =
       let h = nothing true 12 (refused-nan score marks n e) refl in
       record { answers = h .0; slots-in = h .1 .0; scores-in = h .1 .1 }
@@ -91,7 +91,7 @@ module _ (score : ℕ → Float) (marks : List ℕ) (n k : ℕ) (slots : List �
     read i = getD (tab (scoreEntry score marks) n) i +0
 
     abbrev written : List ℕ
-    written = answered numbers k (take places slots)
+    written = listedWithin numbers k (take places slots)
 
     abbrev found : List (ℕ × Float)
     found = shown score marks n true k places
@@ -101,7 +101,7 @@ module _ (score : ℕ → Float) (marks : List ℕ) (n k : ℕ) (slots : List �
     room = leb (length (picks score marks n k)) places
 
     written-is : written ≡ cond room (picks score marks n k) []
-    unfolding answered
+    unfolding listedWithin
     written-is =
         let p : length (take places slots) ≡ places = length-take-le places slots (omega arith) in
         let e : listed numbers k ≡ picks score marks n k = listed-picks score marks float n k (no-nan score marks n none) in
@@ -127,11 +127,11 @@ module _ (score : ℕ → Float) (marks : List ℕ) (n k : ℕ) (slots : List �
 
     -- what is written by the working arrays
     pub all-sound : (all : List Float) (orders : List ℕ) → all ≡ tab (scoreEntry score marks) n → orders ≡ numbers → (m : ℕ) (next : List ℕ) (after : List Float) →
-        WritesHits all orders k slots next scores after m → Lists score marks n k slots next scores after (Found.Hits m)
+        WritesHits all orders k slots next scores after m → ListsHits score marks n k slots next scores after (Found.Hits m)
     unfolding listAnswer
     all-sound all orders a o m next after h =
         let many : length found ≡ length written = sym (length-map found (λ e. e .0)) ∙ ap length slots-are in
-        let w : answered orders k (take places slots) ≡ written = ap (λ (l : List ℕ). answered l k (take places slots)) o in
+        let w : listedWithin orders k (take places slots) ≡ written = ap (λ (l : List ℕ). listedWithin l k (take places slots)) o in
         record {
           answers = rw (refused-not score marks n none, many, h .many, w);
           slots-in = rw (slots-are, h .slots-in, w);

@@ -11,16 +11,14 @@ use lib.Dec.{T}
 use lib.ListN.{length, getD, set}
 use lib.Ieee.{Float, nan, isNan}
 use Rattle.pattern.specs.Binary32.{+0}
-use Rattle.lists.specs.Lists.{tab, over}
-use Rattle.lists.specs.Keep.{keep, Each}
+use Rattle.lists.specs.Lists.{tab, over, below}
+use Rattle.lists.specs.Keep.{keep, Each, any}
 use Rattle.lists.proofs.Laws.{over-more, length-tab, tab-ext}
 use Rattle.lists.proofs.Keep.{keep-none, keep-same}
 use Rattle.lists.proofs.Front.{getD-rest, each-tab, tab-each}
 use Rattle.score.specs.Order.{orderNumber}
-use Rattle.index.specs.Step.{any}
-use Rattle.held.specs.Held.{below}
-use Rattle.scan.specs.Scan.{marked}
-use Rattle.hits.specs.Hits.{entered}
+use Rattle.scan.specs.Scan.{takesPart}
+use Rattle.hits.specs.Hits.{scoredSlots}
 use Rattle.hits.specs.Steps.{scoreEntry, orderEntry, anyNan, Scores, EntersSlot, EntersSlots}
 
 never : {A : Type 0} → false ≡ true → A
@@ -41,7 +39,7 @@ none-each p (i ∷ is) e = let r = none-first (p i) i (keep p is) e in (r .0, no
 module _ (score : ℕ → Float) (marks : List ℕ) where
   -- the slot takes part, and its score is NaN
   abbrev pub nanAt : ℕ → Bool
-  nanAt i = marked marks i && isNan (score i)
+  nanAt i = takesPart marks i && isNan (score i)
 
   -- ---- one slot
 
@@ -49,14 +47,14 @@ module _ (score : ℕ → Float) (marks : List ℕ) where
     abbrev Enters : Bool → Type 0
     Enters r = EntersSlot score marks i all next orders after r
 
-    pub enters-not : marked marks i ≡ false → next ≡ set all i +0 → after ≡ set orders i 0 → Enters true
+    pub enters-not : takesPart marks i ≡ false → next ≡ set all i +0 → after ≡ set orders i 0 → Enters true
     unfolding scoreEntry orderEntry
     enters-not m e f = record { sound = rw m; score-in = λ _. rw m e; order-in = λ _. rw m f }
 
-    pub enters-nan : marked marks i ≡ true → isNan (score i) ≡ true → Enters false
+    pub enters-nan : takesPart marks i ≡ true → isNan (score i) ≡ true → Enters false
     enters-nan m t = record { sound = rw (m, t); score-in = never; order-in = never }
 
-    pub enters-score : marked marks i ≡ true → isNan (score i) ≡ false → next ≡ set all i (score i) →
+    pub enters-score : takesPart marks i ≡ true → isNan (score i) ≡ false → next ≡ set all i (score i) →
         (o : ℕ) → o ≡ orderNumber (score i) → after ≡ set orders i o → Enters true
     unfolding scoreEntry orderEntry
     enters-score m t f o g h = record { sound = rw (m, t); score-in = λ _. rw m f; order-in = λ _. rw (m, ← g) h }
@@ -68,20 +66,20 @@ module _ (score : ℕ → Float) (marks : List ℕ) where
 
   -- ---- the slots below n
 
-  any-kept : (is : List ℕ) → any (λ (e : ℕ × Float). isNan (e .1)) (map (λ i. (i, score i)) (keep (marked marks) is)) ≡ someOf (keep nanAt is)
+  any-kept : (is : List ℕ) → any (λ (e : ℕ × Float). isNan (e .1)) (map (λ i. (i, score i)) (keep (takesPart marks) is)) ≡ someOf (keep nanAt is)
   unfolding any
   any-kept [] = refl
-  any-kept (i ∷ is) = go (marked marks i) (isNan (score i)) refl refl (any-kept is)
+  any-kept (i ∷ is) = go (takesPart marks i) (isNan (score i)) refl refl (any-kept is)
     where
-      go : (b c : Bool) → marked marks i ≡ b → isNan (score i) ≡ c →
-          any (λ (e : ℕ × Float). isNan (e .1)) (map (λ i. (i, score i)) (keep (marked marks) is)) ≡ someOf (keep nanAt is) →
-          any (λ (e : ℕ × Float). isNan (e .1)) (map (λ i. (i, score i)) (keep (marked marks) (i ∷ is))) ≡ someOf (keep nanAt (i ∷ is))
+      go : (b c : Bool) → takesPart marks i ≡ b → isNan (score i) ≡ c →
+          any (λ (e : ℕ × Float). isNan (e .1)) (map (λ i. (i, score i)) (keep (takesPart marks) is)) ≡ someOf (keep nanAt is) →
+          any (λ (e : ℕ × Float). isNan (e .1)) (map (λ i. (i, score i)) (keep (takesPart marks) (i ∷ is))) ≡ someOf (keep nanAt (i ∷ is))
       go true true e f ih = rw (e, f)
       go true false e f ih = rw (e, f) ih
       go false c e f ih = rw e ih
 
   any-nan : (n : ℕ) → anyNan score marks n ≡ someOf (keep nanAt (below n))
-  unfolding anyNan entered
+  unfolding anyNan scoredSlots
   any-nan n = any-kept (below n)
 
   pub no-nan : (n : ℕ) → anyNan score marks n ≡ false → Each (λ i. nanAt i ≡ false) (below n)
@@ -142,24 +140,24 @@ module _ (score : ℕ → Float) (marks : List ℕ) (n : ℕ) (all mid next : Li
 
   entry-like : (i : ℕ) → i < n → scoreEntry read marks i ≡ scoreEntry score marks i
   unfolding scoreEntry
-  entry-like i l = go (marked marks i) refl
+  entry-like i l = go (takesPart marks i) refl
     where
-      go : (b : Bool) → marked marks i ≡ b → cond b (read i) +0 ≡ cond b (score i) +0
+      go : (b : Bool) → takesPart marks i ≡ b → cond b (read i) +0 ≡ cond b (score i) +0
       go true m = s .there i l m
       go false m = refl
 
   order-like : (i : ℕ) → i < n → orderEntry read marks i ≡ orderEntry score marks i
   unfolding orderEntry
-  order-like i l = go (marked marks i) refl
+  order-like i l = go (takesPart marks i) refl
     where
-      go : (b : Bool) → marked marks i ≡ b → cond b (orderNumber (read i)) 0 ≡ cond b (orderNumber (score i)) 0
+      go : (b : Bool) → takesPart marks i ≡ b → cond b (orderNumber (read i)) 0 ≡ cond b (orderNumber (score i)) 0
       go true m = ap orderNumber (s .there i l m)
       go false m = refl
 
   nan-like : (i : ℕ) → i < n → nanAt read marks i ≡ nanAt score marks i
-  nan-like i l = go (marked marks i) refl
+  nan-like i l = go (takesPart marks i) refl
     where
-      go : (b : Bool) → marked marks i ≡ b → (b && isNan (read i)) ≡ (b && isNan (score i))
+      go : (b : Bool) → takesPart marks i ≡ b → (b && isNan (read i)) ≡ (b && isNan (score i))
       go true m = ap isNan (s .there i l m)
       go false m = refl
 

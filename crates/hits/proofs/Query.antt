@@ -7,24 +7,25 @@ use Prim.Native.Nat.{ℕ}
 use lib.Dec.{T}
 use lib.Ieee.{Float, binary32, fits}
 use Rattle.lloyd.specs.Tables.{centroidsOf}
+use Rattle.unit.specs.Brought.{Query}
 use Rattle.unit.specs.Unit.{rotatedBy, prepared}
 use Rattle.encode.specs.declared.Header.{Header}
 use Rattle.score.specs.Score.{slotScore}
 use Rattle.score.proofs.Slot.{score-fits}
 use Rattle.index.specs.State.{stageAt}
-use Rattle.index.specs.Codec.{scoreOf}
+use Rattle.index.specs.Codec.{scoreByTable}
 use Rattle.hits.specs.Hits.{scoreAt}
 use Rattle.hits.specs.Steps.{scorePrepared, EntersSlots}
 
-module _ (h : Header) (codes scales codes2 scales2 : List ℕ) (q : List Float) where
-  scores-prepared : (cs xs : List Float) → cs ≡ centroidsOf (h .width) → xs ≡ prepared (rotatedBy (h .working) (h .seed) q) →
+module _ (h : Header) (codes scales codes2 scales2 : List ℕ) (q : Query) where
+  scores-prepared : (cs xs : List Float) → cs ≡ centroidsOf (h .bits) → xs ≡ prepared (rotatedBy (h .«working_dim») (h .seed) (q .vector)) →
       scorePrepared h codes scales codes2 scales2 cs xs ≡ scoreAt h codes scales codes2 scales2 q
-  unfolding scorePrepared scoreAt scoreOf
+  unfolding scorePrepared scoreAt scoreByTable
   scores-prepared cs xs e f =
-      λ j i. slotScore (h .width) (e j) (f j) (stageAt h scales codes i) (cond (h .residual) (some (stageAt h scales2 codes2 i)) none)
+      λ j i. slotScore (h .bits) (e j) (f j) (stageAt h scales codes i) (cond (h .residual) (some (stageAt h scales2 codes2 i)) none)
 
   -- so is what entering slots under it does
-  pub entered-prepared : (cs xs : List Float) → cs ≡ centroidsOf (h .width) → xs ≡ prepared (rotatedBy (h .working) (h .seed) q) →
+  pub entered-prepared : (cs xs : List Float) → cs ≡ centroidsOf (h .bits) → xs ≡ prepared (rotatedBy (h .«working_dim») (h .seed) (q .vector)) →
       (marks : List ℕ) (n : ℕ) (all next : List Float) (orders after : List ℕ) (r : Bool) →
       EntersSlots (scorePrepared h codes scales codes2 scales2 cs xs) marks n all next orders after r →
       EntersSlots (scoreAt h codes scales codes2 scales2 q) marks n all next orders after r
@@ -33,5 +34,5 @@ module _ (h : Header) (codes scales codes2 scales2 : List ℕ) (q : List Float) 
 
   -- each is a binary32
   pub scores-fit : (i : ℕ) → T (fits binary32 (scoreAt h codes scales codes2 scales2 q i))
-  unfolding scoreAt scoreOf
+  unfolding scoreAt scoreByTable
   scores-fit i = score-fits _ _ _ _ (cond (h .residual) (some (stageAt h scales2 codes2 i)) none)

@@ -8,28 +8,20 @@ use native.Mathlib.Omega.{arith}
 use lib.Dec.{leb}
 use lib.Ieee.{Float}
 use lib.ListN.{length, take, drop, getD, take-append-drop}
-use lib.Seq.{length-take-le, take-append-seam, drop-append-le}
+use lib.Seq.{length-take-le, drop-append-le}
 use Rattle.pattern.specs.Binary32.{+0}
-use Rattle.lists.specs.Lists.{tab, over}
+use Rattle.lists.specs.Lists.{over}
 use Rattle.lists.specs.Keep.{numbered, Each}
-use Rattle.lists.proofs.Laws.{length-tab, length-over}
+use Rattle.lists.proofs.Laws.{length-over}
 use Rattle.lists.proofs.Keep.{each-keep, each-getD, length-numbered, getD-numbered}
-use Rattle.lists.proofs.Front.{each-map}
+use Rattle.lists.proofs.Front.{each-map, take-over}
 use Rattle.choose.specs.Choose.{choose}
 use Rattle.choose.proofs.Choice.{choose-each}
-use Rattle.choose_slots.specs.Slots.{entered, listed, answered}
+use Rattle.choose_slots.specs.Slots.{takingPart, listed, listedWithin}
 use Rattle.choose_slots.proofs.Listed.{answered-few}
 use Rattle.hits.specs.Steps.{WritesHits}
 
 -- ---- what is written over a part
-
--- `&xs[0..length ys]` after ys was written to the first places
-pub front : {A : Type 0} (ys xs : List A) → take (length ys - 0) (over ys xs) ≡ ys
-unfolding over
-front ys xs = rw (sub-zero (length ys)) (take-append-seam ys (drop (length ys) xs))
-
-pub front-tab : {A : Type 0} (f : ℕ → A) (n : ℕ) (xs : List A) → take (n - 0) (over (tab f n) xs) ≡ tab f n
-front-tab f n xs = rw (length-tab f n) at (front (tab f n) xs)
 
 -- written over the first p places, all others kept
 pub over-part : {A : Type 0} (ys xs : List A) (p : ℕ) → length ys ≤ p → p ≤ length xs → over ys (take (p - 0) xs) ++ drop (p - 0) xs ≡ over ys xs
@@ -42,10 +34,10 @@ over-part ys xs p h l =
 
 module _ (orders : List ℕ) (k : ℕ) where
   pub listed-each : Each (λ i. i < length orders) (listed orders k)
-  unfolding listed entered
+  unfolding listed takingPart
   listed-each =
-      each-map (λ i. i < length orders) (λ (e : ℕ × ℕ). e .0) (choose (λ e. e .1) k (entered orders))
-      (choose-each (λ (e : ℕ × ℕ). e .1) k (entered orders) (λ e. e .0 < length orders)
+      each-map (λ i. i < length orders) (λ (e : ℕ × ℕ). e .0) (choose (λ e. e .1) k (takingPart orders))
+      (choose-each (λ (e : ℕ × ℕ). e .1) k (takingPart orders) (λ e. e .0 < length orders)
       (each-keep (λ e. e .0 < length orders) _ (numbered 0 orders)
       (each-getD (λ e. e .0 < length orders) (0, 0) (numbered 0 orders) at)))
     where
@@ -55,8 +47,8 @@ module _ (orders : List ℕ) (k : ℕ) where
           rw (getD-numbered 0 orders i (0, 0) m, zero-add i) m
 
   module _ (places : List ℕ) where
-    pub answered-each : Each (λ i. i < length orders) (answered orders k places)
-    unfolding answered
+    pub answered-each : Each (λ i. i < length orders) (listedWithin orders k places)
+    unfolding listedWithin
     answered-each = go (leb (length orders) 65536 && leb (length (listed orders k)) (length places))
       where
         go : (b : Bool) → Each (λ i. i < length orders) (cond b (listed orders k) [])
@@ -68,7 +60,7 @@ module _ (orders : List ℕ) (k : ℕ) where
 -- The choice was written to the first p places of `slots`, which are `last` after it, and n is how many it gave.
 module _ (orders : List ℕ) (k : ℕ) (slots : List ℕ) (p : ℕ) (within : p ≤ length slots) (n : ℕ) (last : List ℕ) where
   abbrev chosen : List ℕ
-  chosen = answered orders k (take (p - 0) slots)
+  chosen = listedWithin orders k (take (p - 0) slots)
 
   module _ (many : n ≡ length chosen) (is : last ≡ over chosen (take (p - 0) slots)) where
     abbrev after : List ℕ
@@ -84,7 +76,7 @@ module _ (orders : List ℕ) (k : ℕ) (slots : List ℕ) (p : ℕ) (within : p 
     slots-reach = rw (slots-written, length-over chosen slots (omega (arith, chosen-few, many))) (omega (arith, chosen-few))
 
     pub slots-front : take (n - 0) after ≡ chosen
-    slots-front = rw (slots-written, many) (front chosen slots)
+    slots-front = rw (slots-written, many) (take-over chosen slots (length chosen - 0) (sub-zero (length chosen)))
 
     -- of m slots, and q places for their scores
     pub part-fits : (m q : ℕ) → m ≡ length orders → p ≤ q → Each (λ i. i < m) (take (n - 0) after) × (length (take (n - 0) after) ≤ q)
@@ -93,7 +85,7 @@ module _ (orders : List ℕ) (k : ℕ) (slots : List ℕ) (p : ℕ) (within : p 
     pub both-written : (all scores next : List Float) → p ≡ min (length slots) (length scores) → next ≡ over (map (λ i. getD all i +0) (take (n - 0) after)) scores →
         WritesHits all orders k slots after scores next n
     both-written all scores next e f =
-        let c : chosen ≡ answered orders k (take (min (length slots) (length scores)) slots) = ap (λ (j : ℕ). answered orders k (take j slots)) (sub-zero p ∙ e) in
+        let c : chosen ≡ listedWithin orders k (take (min (length slots) (length scores)) slots) = ap (λ (j : ℕ). listedWithin orders k (take j slots)) (sub-zero p ∙ e) in
         record {
           many = many ∙ ap length c;
           slots-in = slots-written ∙ ap (λ (l : List ℕ). over l slots) c;

@@ -5,35 +5,36 @@ use Prim.Native.Nat.{ℕ}
 use lib.ListN.{length}
 use lib.Dec.{leb, eqb}
 use lib.Ieee.{Float, isNan}
-use Rattle.lists.specs.Keep.{keep}
+use Rattle.lists.specs.Keep.{keep, any}
 use Rattle.choose.specs.Choose.{choose}
 use Rattle.score.specs.Order.{orderNumber}
+use Rattle.unit.specs.Brought.{Query}
 use Rattle.unit.specs.Calls.{rotatable}
 use Rattle.encode.specs.declared.Header.{Header}
 use Rattle.encode.specs.Coded.{codeIn}
-use Rattle.held.specs.Held.{below}
+use Rattle.lists.specs.Lists.{below}
 use Rattle.index.specs.declared.Found.{Found}
 use Rattle.index.specs.declared.Found.the-variants as Found
 use Rattle.index.specs.State.{stageAt}
 use Rattle.index.specs.Codec.{scoreOf}
-use Rattle.scan.specs.Scan.{marked}
-use Rattle.index.specs.Step.{firstOf, when, any}
+use Rattle.scan.specs.Scan.{takesPart}
+use Rattle.index.specs.Step.{firstOf, when}
 
 -- the score of each slot by the arrays of codes and scales
-unfoldable pub scoreAt : Header → (codes scales codes2 scales2 : List ℕ) → (query : List Float) → ℕ → Float
+unfoldable pub scoreAt : Header → (codes scales codes2 scales2 : List ℕ) → Query → ℕ → Float
 scoreAt h codes scales codes2 scales2 q i = scoreOf h q (codeIn (h .residual) (stageAt h scales codes i) (stageAt h scales2 codes2 i))
 
 module _ (score : ℕ → Float) (marks : List ℕ) (n : ℕ) where
   -- number and score of the slots that take part, in slot order
-  unfoldable pub entered : List (ℕ × Float)
-  entered = map (λ i. (i, score i)) (keep (marked marks) (below n))
+  unfoldable pub scoredSlots : List (ℕ × Float)
+  scoredSlots = map (λ i. (i, score i)) (keep (takesPart marks) (below n))
 
   abbrev pub chosen : (k : ℕ) → List (ℕ × Float)
-  chosen k = choose (λ e. orderNumber (e .1)) k entered
+  chosen k = choose (λ e. orderNumber (e .1)) k scoredSlots
 
   -- 13 where the call can't be made (see `ready`), then 12, "a score to be ranked .. is NaN"; else 0
   unfoldable pub listRefusal : (ready : Bool) → ℕ
-  listRefusal ready = firstOf (when (not ready) 13 ∷ when (any (λ e. isNan (e .1)) entered) 12 ∷ [])
+  listRefusal ready = firstOf (when (not ready) 13 ∷ when (any (λ e. isNan (e .1)) scoredSlots) 12 ∷ [])
 
   -- the list that is written: none where it is refused, or where it has not as many places as it needs
   unfoldable pub shown : (ready : Bool) → (k places : ℕ) → List (ℕ × Float)

@@ -10,11 +10,12 @@ ghost use lib.ListN.{length, getD};
 ghost use Rattle.pattern.specs.Binary32.{+0};
 ghost use Rattle.lists.specs.Lists.{over};
 ghost use Rattle.lists.specs.Keep.{Each};
+ghost use Rattle.unit.specs.Brought.{queryOf};
 ghost use Rattle.unit.specs.Calls.{rotatable};
 ghost use Rattle.index.specs.State.{headerOf};
-ghost use Rattle.scan.specs.Scan.{marked};
+ghost use Rattle.scan.specs.Scan.{takesPart};
 ghost use Rattle.hits.specs.Hits.{scoreAt, listAnswer, shown, ready};
-ghost use Rattle.hits.specs.Steps.{scorePrepared, Scores, EntersSlot, EntersSlots, WritesHits, Lists};
+ghost use Rattle.hits.specs.Steps.{scorePrepared, Scores, EntersSlot, EntersSlots, WritesHits, ListsHits};
 use index::Found;
 use index::Index;
 
@@ -60,7 +61,7 @@ fn few_words() -> [u32; 1024] {
 
 // A slot past the end of the marks takes no part.
 fn is_marked(marks: &[u8], slot: usize) -> bool
-    ensures { λ r. ⌜ r ≡ marked (now (marks .entry)) slot ⌝ }
+    ensures { λ r. ⌜ r ≡ takesPart (now (marks .entry)) slot ⌝ }
 {
     if slot < marks.len() {
         return 0 < marks[slot];
@@ -121,7 +122,8 @@ fn score_slots(
 fn enter_slot(marks: &[u8], slot: usize, all: &mut [f32], orders: &mut [u32]) -> bool
     requires { ⌜ (slot < length (now all)) × (slot < length (now orders)) ⌝ }
     ensures { λ r. ⌜
-        EntersSlot (λ i. getD (now (all .entry)) i nan) (now (marks .entry)) slot (now (all .entry)) (now (all .exit)) (now (orders .entry)) (now (orders .exit)) r ⌝ }
+        EntersSlot (λ i. getD (now (all .entry)) i nan) (now (marks .entry)) slot
+        (now (all .entry)) (now (all .exit)) (now (orders .entry)) (now (orders .exit)) r ⌝ }
 {
     if !is_marked(marks, slot) {
         all[slot] = 0.0;
@@ -132,7 +134,7 @@ fn enter_slot(marks: &[u8], slot: usize, all: &mut [f32], orders: &mut [u32]) ->
     if score != score {
         return false;
     }
-    orders[slot] = score::order_number(score);
+    orders[slot] = scoring::order_number(score);
     true
 }
 
@@ -140,7 +142,8 @@ fn enter_slot(marks: &[u8], slot: usize, all: &mut [f32], orders: &mut [u32]) ->
 fn enter_orders(marks: &[u8], n: usize, all: &mut [f32], orders: &mut [u32]) -> bool
     requires { ⌜ (n ≤ length (now all)) × (n ≤ length (now orders)) ⌝ }
     ensures { λ r. ⌜
-        EntersSlots (λ i. getD (now (all .entry)) i nan) (now (marks .entry)) n (now (all .entry)) (now (all .exit)) (now (orders .entry)) (now (orders .exit)) r ⌝ }
+        EntersSlots (λ i. getD (now (all .entry)) i nan) (now (marks .entry)) n
+        (now (all .entry)) (now (all .exit)) (now (orders .entry)) (now (orders .exit)) r ⌝ }
 {
     let mut i = 0;
     while i < n {
@@ -202,7 +205,8 @@ fn enter_all(
     requires { ⌜ (4 ≤ index .bits) × (index .bits ≤ 6) × (index .n ≤ length (now all)) × (index .n ≤ length (now orders)) ⌝ }
     requires { ⌜ rotatable (index .«working_dim») (length (now query)) 4096 ≡ true ⌝ }
     ensures { λ r. ⌜
-        EntersSlots (scoreAt (headerOf index) (now (codes .entry)) (now (scales .entry)) (now (codes2 .entry)) (now (scales2 .entry)) (now (query .entry)))
+        EntersSlots (scoreAt (headerOf index) (now (codes .entry)) (now (scales .entry)) (now (codes2 .entry)) (now (scales2 .entry))
+        (queryOf (now (query .entry))))
         (now (marks .entry)) (index .n) (now (all .entry)) (now (all .exit)) (now (orders .entry)) (now (orders .exit)) r ⌝ }
 {
     let levels = lloyd::levels(index.bits);
@@ -281,7 +285,8 @@ fn list_in(
     requires { ⌜ ready (index .n) (index .bits) (index .«working_dim») (length (now query)) ≡ true ⌝ }
     requires { ⌜ (index .n ≤ length (now all)) × (index .n ≤ length (now orders)) ⌝ }
     ensures { λ r. ⌜
-        Lists (scoreAt (headerOf index) (now (codes .entry)) (now (scales .entry)) (now (codes2 .entry)) (now (scales2 .entry)) (now (query .entry)))
+        ListsHits (scoreAt (headerOf index) (now (codes .entry)) (now (scales .entry)) (now (codes2 .entry)) (now (scales2 .entry))
+        (queryOf (now (query .entry))))
         (now (marks .entry)) (index .n) k (now (slots .entry)) (now (slots .exit)) (now (scores .entry)) (now (scores .exit)) r ⌝ }
 {
     let n = index.n;
@@ -302,8 +307,8 @@ fn list_in(
     Found::Hits(hits)
 }
 
-// Of at most 1,024 slots: clearing working arrays for 65,536 would take longer than the search.
-fn list_few(
+// The hits of the marked slots in the first places of `slots` and `scores`, or the number of the refusal.
+pub fn list(
     index: Index,
     codes: &[u8],
     scales: &[u32],
@@ -315,46 +320,44 @@ fn list_few(
     slots: &mut [u32],
     scores: &mut [f32],
 ) -> Found
-    requires { ⌜ (ready (index .n) (index .bits) (index .«working_dim») (length (now query)) ≡ true) × (index .n ≤ 1024) ⌝ }
     ensures { λ r. ⌜
-        Lists (scoreAt (headerOf index) (now (codes .entry)) (now (scales .entry)) (now (codes2 .entry)) (now (scales2 .entry)) (now (query .entry)))
-        (now (marks .entry)) (index .n) k (now (slots .entry)) (now (slots .exit)) (now (scores .entry)) (now (scores .exit)) r ⌝ }
-{
-    let mut all = few_floats();
-    let mut orders = few_words();
-    list_in(
-        index,
-        codes,
-        scales,
-        codes2,
-        scales2,
-        marks,
-        query,
-        k,
-        slots,
-        scores,
-        &mut all,
-        &mut orders,
-    )
-}
-
-fn list_many(
-    index: Index,
-    codes: &[u8],
-    scales: &[u32],
-    codes2: &[u8],
-    scales2: &[u32],
-    marks: &[u8],
-    query: &[f32],
-    k: usize,
-    slots: &mut [u32],
-    scores: &mut [f32],
-) -> Found
-    requires { ⌜ ready (index .n) (index .bits) (index .«working_dim») (length (now query)) ≡ true ⌝ }
+        r ≡ listAnswer (scoreAt (headerOf index) (now (codes .entry)) (now (scales .entry)) (now (codes2 .entry)) (now (scales2 .entry))
+        (queryOf (now (query .entry))))
+        (now (marks .entry)) (index .n) (ready (index .n) (index .bits) (index .«working_dim») (length (now (query .entry)))) k
+        (min (length (now (slots .entry))) (length (now (scores .entry)))) ⌝ }
     ensures { λ r. ⌜
-        Lists (scoreAt (headerOf index) (now (codes .entry)) (now (scales .entry)) (now (codes2 .entry)) (now (scales2 .entry)) (now (query .entry)))
-        (now (marks .entry)) (index .n) k (now (slots .entry)) (now (slots .exit)) (now (scores .entry)) (now (scores .exit)) r ⌝ }
+        now (slots .exit) ≡ over (map (λ e. e .0)
+        (shown (scoreAt (headerOf index) (now (codes .entry)) (now (scales .entry)) (now (codes2 .entry)) (now (scales2 .entry)) (queryOf (now (query .entry))))
+        (now (marks .entry)) (index .n) (ready (index .n) (index .bits) (index .«working_dim») (length (now (query .entry)))) k
+        (min (length (now (slots .entry))) (length (now (scores .entry)))))) (now (slots .entry)) ⌝ }
+    ensures { λ r. ⌜
+        now (scores .exit) ≡ over (map (λ e. e .1)
+        (shown (scoreAt (headerOf index) (now (codes .entry)) (now (scales .entry)) (now (codes2 .entry)) (now (scales2 .entry)) (queryOf (now (query .entry))))
+        (now (marks .entry)) (index .n) (ready (index .n) (index .bits) (index .«working_dim») (length (now (query .entry)))) k
+        (min (length (now (slots .entry))) (length (now (scores .entry)))))) (now (scores .entry)) ⌝ }
 {
+    if !is_ready(index, query.len()) {
+        return Found::Refused(13);
+    }
+    // Clearing working arrays for 65,536 slots would take longer than a search of a few.
+    if index.n <= 1024 {
+        let mut all = few_floats();
+        let mut orders = few_words();
+        return list_in(
+            index,
+            codes,
+            scales,
+            codes2,
+            scales2,
+            marks,
+            query,
+            k,
+            slots,
+            scores,
+            &mut all,
+            &mut orders,
+        );
+    }
     let mut all = slot_floats();
     let mut orders = slot_words();
     list_in(
@@ -370,64 +373,5 @@ fn list_many(
         scores,
         &mut all,
         &mut orders,
-    )
-}
-
-// The hits of the marked slots in the first places of `slots` and `scores`, or the number of the refusal.
-pub fn list(
-    index: Index,
-    codes: &[u8],
-    scales: &[u32],
-    codes2: &[u8],
-    scales2: &[u32],
-    marks: &[u8],
-    query: &[f32],
-    k: usize,
-    slots: &mut [u32],
-    scores: &mut [f32],
-) -> Found
-    ensures { λ r. ⌜
-        r ≡ listAnswer (scoreAt (headerOf index) (now (codes .entry)) (now (scales .entry)) (now (codes2 .entry)) (now (scales2 .entry)) (now (query .entry)))
-        (now (marks .entry)) (index .n) (ready (index .n) (index .bits) (index .«working_dim») (length (now (query .entry)))) k
-        (min (length (now (slots .entry))) (length (now (scores .entry)))) ⌝ }
-    ensures { λ r. ⌜
-        now (slots .exit) ≡ over (map (λ e. e .0)
-        (shown (scoreAt (headerOf index) (now (codes .entry)) (now (scales .entry)) (now (codes2 .entry)) (now (scales2 .entry)) (now (query .entry)))
-        (now (marks .entry)) (index .n) (ready (index .n) (index .bits) (index .«working_dim») (length (now (query .entry)))) k
-        (min (length (now (slots .entry))) (length (now (scores .entry)))))) (now (slots .entry)) ⌝ }
-    ensures { λ r. ⌜
-        now (scores .exit) ≡ over (map (λ e. e .1)
-        (shown (scoreAt (headerOf index) (now (codes .entry)) (now (scales .entry)) (now (codes2 .entry)) (now (scales2 .entry)) (now (query .entry)))
-        (now (marks .entry)) (index .n) (ready (index .n) (index .bits) (index .«working_dim») (length (now (query .entry)))) k
-        (min (length (now (slots .entry))) (length (now (scores .entry)))))) (now (scores .entry)) ⌝ }
-{
-    if !is_ready(index, query.len()) {
-        return Found::Refused(13);
-    }
-    if index.n <= 1024 {
-        return list_few(
-            index,
-            codes,
-            scales,
-            codes2,
-            scales2,
-            marks,
-            query,
-            k,
-            slots,
-            scores,
-        );
-    }
-    list_many(
-        index,
-        codes,
-        scales,
-        codes2,
-        scales2,
-        marks,
-        query,
-        k,
-        slots,
-        scores,
     )
 }

@@ -7,7 +7,7 @@ use Prim.Native.Nat.{ℕ, zero, suc}
 use native.Mathlib.Omega.{arith}
 use lib.ListN.{length}
 use Rattle.encode.specs.Coded.{noSpare}
-use Rattle.index.specs.State.{Mark, isLive, Slot, State, live}
+use Rattle.index.specs.State.{Mark, isLive, Slot, State, live, newSlot}
 use Rattle.index.specs.Codec.{encoded}
 use Rattle.index.specs.Step.{add, addKeyed, addMulti, Item, Answer, refused, done, flag, slot, maybeSlot, maybeKey, scoreIs, hits, keyHits, size, bytes, liveFrom, keyOfMark, slotHolding, Outcome, guarded, appended, step}
 use Rattle.index.proofs.Refusals.{either-way}
@@ -49,7 +49,7 @@ module _ (room : ℕ) (s : State) (v : Item) (i : ℕ) where
       unrefused s i _ _ (Stored s (keyOfMark m) v i) e
       (λ f. record {
         number = sym (ap (slotOr i) f);
-        new = record { mark = m; code = encoded (s .header) noSpare v };
+        new = newSlot m (encoded (s .header) noSpare v);
         slots = refl;
         alive = l;
         keyed = refl;

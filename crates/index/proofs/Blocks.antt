@@ -7,12 +7,11 @@ use native.Mathlib.Omega.{arith}
 use lib.ListN.{length, take, drop, getD, length-append, length-drop}
 use lib.Seq.{take-add, take-at, length-take-le, drop-append-add}
 use borrow.Author.Tests.{le-leb}
-use Rattle.lists.specs.Lists.{tab, over}
+use Rattle.lists.specs.Lists.{tab, over, joined}
 use Rattle.lists.specs.Keep.{Each}
 use Rattle.lists.proofs.Laws.{length-over}
 use Rattle.lists.proofs.Front.{over-front}
 use Rattle.codes.specs.Slots.{blockAt}
-use Rattle.index.specs.State.{joined}
 
 pub joined-append : (bs cs : List (List ℕ)) → joined (bs ++ cs) ≡ joined bs ++ joined cs
 unfolding joined

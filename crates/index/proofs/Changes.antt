@@ -9,10 +9,11 @@ use lib.Dec.{ltb, eqb}
 use borrow.Author.Tests.{eqb-true, eqb-false, lt-ltb, le-ltb, eq-eqb, ne-eqb}
 use Rattle.lists.specs.Keep.{bit, keep, count}
 use Rattle.lists.proofs.Keep.{each-mem, count-append, count-same, count-share, count-implied, count-map}
-use Rattle.index.specs.State.{Mark, dead, unkeyed, keyed, Slot, live}
-use Rattle.index.specs.Step.{holds, holdsAt, removed, relabelled, filled, oneMore, rising, compacted}
+use Rattle.index.specs.State.{Mark, dead, unkeyed, keyed, Slot, live, withMark}
+use Rattle.index.specs.Step.{holds, holdsAt, removed, relabelled, gapFilled, oneMore, rising, compacted}
 use Rattle.index.specs.Sound.{marks, OnceEach}
-use Rattle.index.proofs.Marks.{and-left, below-suc}
+use Rattle.lists.proofs.Tests.{and-left}
+use Rattle.index.proofs.Marks.{below-suc}
 
 -- ---- counts of a key's slots whose position passes a test: `holds` and `holdsAt` are two of these
 
@@ -196,7 +197,7 @@ module _ (ms : List Mark) (once : OnceEach ms) where
         go (m ∷ ns) = omega (arith, h m, go ns)
 
     -- where the gap is the last, its slot goes
-    dies : gap ≡ last → (m : Mark) (q : ℕ → Bool) → bit (holdsIf j q m) ≡ bit (holdsIf j q (filled j gap last m)) + bit (holdsAt j gap m && q gap)
+    dies : gap ≡ last → (m : Mark) (q : ℕ → Bool) → bit (holdsIf j q m) ≡ bit (holdsIf j q (gapFilled j gap last m)) + bit (holdsAt j gap m && q gap)
     dies g (dead u) q = refl
     dies g (unkeyed u) q = refl
     dies g (keyed i p) q = at (eqb i j) (eqb p gap) refl refl
@@ -209,7 +210,7 @@ module _ (ms : List Mark) (once : OnceEach ms) where
 
     -- else the last takes its position
     moves : (gap ≡ last → ⊥) → (m : Mark) (q : ℕ → Bool) →
-        bit (holdsIf j q (filled j gap last m)) + bit (holdsAt j gap m && q gap) + bit (holdsAt j last m && q last) ≡ bit (holdsIf j q m) + bit (holdsAt j last m && q gap)
+        bit (holdsIf j q (gapFilled j gap last m)) + bit (holdsAt j gap m && q gap) + bit (holdsAt j last m && q last) ≡ bit (holdsIf j q m) + bit (holdsAt j last m && q gap)
     moves g (dead u) q = refl
     moves g (unkeyed u) q = refl
     moves g (keyed i p) q = at (eqb i j) (eqb p gap) (eqb p last) refl refl refl
@@ -223,24 +224,24 @@ module _ (ms : List Mark) (once : OnceEach ms) where
         at false x y e f h = rw e (omega arith)
 
     -- either way the last position is free
-    freed : (q : ℕ → Bool) → count (holdsIf j q) (map (filled j gap last) ms) + bit (q last) ≡ count (holdsIf j q) ms
-    freed q = rw (count-map (filled j gap last) (holdsIf j q) ms) (go (eqb gap last) refl)
+    freed : (q : ℕ → Bool) → count (holdsIf j q) (map (gapFilled j gap last) ms) + bit (q last) ≡ count (holdsIf j q) ms
+    freed q = rw (count-map (gapFilled j gap last) (holdsIf j q) ms) (go (eqb gap last) refl)
       where
-        go : (b : Bool) → eqb gap last ≡ b → count (λ m. holdsIf j q (filled j gap last m)) ms + bit (q last) ≡ count (holdsIf j q) ms
+        go : (b : Bool) → eqb gap last ≡ b → count (λ m. holdsIf j q (gapFilled j gap last m)) ms + bit (q last) ≡ count (holdsIf j q) ms
         go true e =
             let g : gap ≡ last = eqb-true gap last e in
-            sym (count-share (holdsIf j q) (λ m. holdsIf j q (filled j gap last m)) (λ m. holdsAt j gap m && q gap) ms (λ m. dies g m q) ∙
-            ap (λ (n : ℕ). count (λ m. holdsIf j q (filled j gap last m)) ms + n) (one-and (holdsAt j gap) (q gap) (held-once gap here) ∙ ap (λ (i : ℕ). bit (q i)) g))
+            sym (count-share (holdsIf j q) (λ m. holdsIf j q (gapFilled j gap last m)) (λ m. holdsAt j gap m && q gap) ms (λ m. dies g m q) ∙
+            ap (λ (n : ℕ). count (λ m. holdsIf j q (gapFilled j gap last m)) ms + n) (one-and (holdsAt j gap) (q gap) (held-once gap here) ∙ ap (λ (i : ℕ). bit (q i)) g))
         go false e =
             omega (
               arith,
-              balance (λ m. holdsIf j q (filled j gap last m)) (λ m. holdsAt j gap m && q gap) (λ m. holdsAt j last m && q last) (holdsIf j q) (λ m. holdsAt j last m && q gap) (λ m. moves (eqb-false gap last e) m q),
+              balance (λ m. holdsIf j q (gapFilled j gap last m)) (λ m. holdsAt j gap m && q gap) (λ m. holdsAt j last m && q last) (holdsIf j q) (λ m. holdsAt j last m && q gap) (λ m. moves (eqb-false gap last e) m q),
               one-and (holdsAt j gap) (q gap) (held-once gap here),
               one-and (holdsAt j last) (q last) (held-once last (omega arith)),
               one-and (holdsAt j last) (q gap) (held-once last (omega arith)),
             )
 
-    apart : (k : ℕ) → (k ≡ j → ⊥) → (m : Mark) (q : ℕ → Bool) → holdsIf k q (filled j gap last m) ≡ holdsIf k q m
+    apart : (k : ℕ) → (k ≡ j → ⊥) → (m : Mark) (q : ℕ → Bool) → holdsIf k q (gapFilled j gap last m) ≡ holdsIf k q m
     apart k kj (dead u) q = refl
     apart k kj (unkeyed u) q = refl
     apart k kj (keyed i p) q = at (eqb i j) (eqb p gap) (eqb p last) refl
@@ -251,15 +252,15 @@ module _ (ms : List Mark) (once : OnceEach ms) where
         at true false false e = refl
         at false x y e = refl
 
-    pub once-filled : OnceEach (map (filled j gap last) ms)
+    pub once-filled : OnceEach (map (gapFilled j gap last) ms)
     once-filled k = go (eqb k j) refl
       where
-        go : (b : Bool) → eqb k j ≡ b → (p : ℕ) → count (holdsAt k p) (map (filled j gap last) ms) ≡ bit (ltb p (count (holds k) (map (filled j gap last) ms)))
+        go : (b : Bool) → eqb k j ≡ b → (p : ℕ) → count (holdsAt k p) (map (gapFilled j gap last) ms) ≡ bit (ltb p (count (holds k) (map (gapFilled j gap last) ms)))
         go true e p =
-            let few : count (holds j) (map (filled j gap last) ms) ≡ last = omega (arith, freed Any, count-any ms j, count-any (map (filled j gap last) ms) j) in
+            let few : count (holds j) (map (gapFilled j gap last) ms) ≡ last = omega (arith, freed Any, count-any ms j, count-any (map (gapFilled j gap last) ms) j) in
             rw (eqb-true k j e, few)
-            (omega (arith, freed (λ i. eqb i p), count-at ms j p, count-at (map (filled j gap last) ms) j p, once j p ∙ ap (λ (n : ℕ). bit (ltb p n)) (sym top), below-suc p last, ap bit (swap last p)))
-        go false e p = once-same ms (map (filled j gap last) ms) k k once (counts-same (filled j gap last) k (apart k (eqb-false k j e))) p
+            (omega (arith, freed (λ i. eqb i p), count-at ms j p, count-at (map (gapFilled j gap last) ms) j p, once j p ∙ ap (λ (n : ℕ). bit (ltb p n)) (sym top), below-suc p last, ap bit (swap last p)))
+        go false e p = once-same ms (map (gapFilled j gap last) ms) k k once (counts-same (gapFilled j gap last) k (apart k (eqb-false k j e))) p
 
 -- ---- compaction
 
@@ -277,7 +278,7 @@ rising-at k p seen [] = rw (add-zero (seen k)) (omega arith)
 rising-at k p seen (s ∷ ss) = go (s .mark) (λ next. rising-at k p next ss)
   where
     go : (m : Mark) → ((next : ℕ → ℕ) → count (holdsAt k p) (marks (rising next ss)) + bit (ltb p (next k)) ≡ bit (ltb p (next k + count (holds k) (marks ss)))) →
-        count (holdsAt k p) (marks (rising seen (record { mark = m; code = s .code } ∷ ss))) + bit (ltb p (seen k)) ≡ bit (ltb p (seen k + (bit (holds k m) + count (holds k) (marks ss))))
+        count (holdsAt k p) (marks (rising seen (withMark s m ∷ ss))) + bit (ltb p (seen k)) ≡ bit (ltb p (seen k + (bit (holds k m) + count (holds k) (marks ss))))
     go (dead u) ih = rw (zero-add (count (holds k) (marks ss))) (omega (arith, ih seen))
     go (unkeyed u) ih = rw (zero-add (count (holds k) (marks ss))) (omega (arith, ih seen))
     go (keyed j q) ih = at (eqb j k) refl (ih (oneMore j seen))
@@ -301,7 +302,7 @@ rising-holds k seen [] = refl
 rising-holds k seen (s ∷ ss) = go (s .mark) (λ next. rising-holds k next ss)
   where
     go : (m : Mark) → ((next : ℕ → ℕ) → count (holds k) (marks (rising next ss)) ≡ count (holds k) (marks ss)) →
-        count (holds k) (marks (rising seen (record { mark = m; code = s .code } ∷ ss))) ≡ bit (holds k m) + count (holds k) (marks ss)
+        count (holds k) (marks (rising seen (withMark s m ∷ ss))) ≡ bit (holds k m) + count (holds k) (marks ss)
     go (dead u) ih = rw (ih seen)
     go (unkeyed u) ih = rw (ih seen)
     go (keyed j p) ih = rw (ih (oneMore j seen))

@@ -10,8 +10,8 @@ use native.Mathlib.Omega.{arith}
 use lib.ListN.{length, getD}
 use lib.Dec.{T, leb, eqb}
 use borrow.Author.Tests.{leb-true, le-leb, eqb-true, eq-eqb}
-use Rattle.lists.specs.Lists.{tab, over}
-use Rattle.lists.specs.Keep.{bit, count, Each}
+use Rattle.lists.specs.Lists.{tab, over, joined}
+use Rattle.lists.specs.Keep.{bit, count, Each, all, every}
 use Rattle.lists.proofs.Laws.{length-tab, tab-ext}
 use Rattle.lists.proofs.Keep.{count-append, count-map, count-same, each-mem}
 use Rattle.lists.proofs.Front.{over-own, map-tab, tab-map, getD-over-map, each-map, map-each, each-tab, tab-each}
@@ -21,12 +21,13 @@ use Rattle.codes.specs.Stage.{Stage}
 use Rattle.codes.specs.Slots.{blockAt}
 use Rattle.index.specs.declared.Index.{Index}
 use Rattle.index.specs.Arrays.{Arrays}
-use Rattle.index.specs.State.{Mark, dead, unkeyed, keyed, Slot, State, isLive, live, headerOf, capacity, markOf, stageAt, slotAt, stateOf, recordOf, aliveOf, hasKey, keyWord, position, joined, seconds, scalesOf, blocksOf, overlay}
-use Rattle.index.specs.Fit.{every, all, Row, rowAt, rows, positioned, fit}
+use Rattle.index.specs.State.{Mark, dead, unkeyed, keyed, Slot, State, isLive, live, headerOf, capacity, markOf, stageAt, slotAt, stateOf, recordOf, aliveOf, hasKey, keyWord, position, seconds, scalesOf, blocksOf, overlay, withCounts}
+use Rattle.index.specs.Fit.{Row, rowAt, rows, positioned, fit}
 use Rattle.index.specs.Sound.{blockLength, Shaped, AllShaped, marks, OnceEach, Ranged, Sound}
 use Rattle.index.proofs.Blocks.{over-blocks, length-block}
 use Rattle.index.proofs.Overlay.{roomy, secondOf, plain-seconds, residual-seconds, overlay-capacity, read-back}
-use Rattle.index.proofs.Marks.{and-left, and-right, rowOf, once-positioned, positioned-once}
+use Rattle.lists.proofs.Tests.{and-left, and-right}
+use Rattle.index.proofs.Marks.{rowOf, once-positioned, positioned-once}
 
 -- ---- the tests one by one
 
@@ -66,7 +67,7 @@ module _ (x : Index) (a : Arrays) where
   fitting e =
       let t = every-each _ e in
       record {
-        header = record { dim = t .0; working = t .1 .0; width = t .1 .1 .0; residual = t .1 .1 .1 .0 };
+        header = record { dim = t .0; «working_dim» = t .1 .0; bits = t .1 .1 .0; residual = t .1 .1 .1 .0 };
         space = leb-true (x .n) (capacity (headerOf x) a) (t .1 .1 .1 .1 .0);
         alive = all-each (λ r. leb (r .alive) 1) (rows x a) (t .1 .1 .1 .1 .1 .0);
         live = eqb-true (x .live) (count (λ r. eqb (r .alive) 1) (rows x a)) (t .1 .1 .1 .1 .1 .1 .0);
@@ -80,9 +81,9 @@ module _ (x : Index) (a : Arrays) where
       each-every _ (
         f .header .dim,
         (
-          f .header .working,
+          f .header .«working_dim»,
           (
-            f .header .width,
+            f .header .bits,
             (
               f .header .residual,
               (
@@ -205,16 +206,7 @@ module _ (x : Index) (a : Arrays) (f : Fitting x a) where
   record-own : recordOf (stateOf x a) ≡ x
   unfolding recordOf stateOf slotAt rowAt
   record-own =
-      λ j. record {
-        dim = x .dim;
-        «working_dim» = x .«working_dim»;
-        seed = x .seed;
-        bits = x .bits;
-        residual = x .residual;
-        n = length-tab (slotAt head a) (x .n) j;
-        live = (count-tab live (λ r. eqb (r .alive) 1) (slotAt head a) (rowAt a) (x .n) (λ i l. own-at i l .live) ∙ sym (f .live)) j;
-        cascade = x .cascade;
-      }
+      λ j. withCounts x (length-tab (slotAt head a) (x .n) j) ((count-tab live (λ r. eqb (r .alive) 1) (slotAt head a) (rowAt a) (x .n) (λ i l. own-at i l .live) ∙ sym (f .live)) j) (x .cascade)
 
 -- ---- the rows of a value written over arrays
 

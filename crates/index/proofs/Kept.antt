@@ -15,14 +15,15 @@ use Rattle.encode.specs.declared.Header.{Header}
 use Rattle.encode.specs.Coded.{fault, noSpare, spareOf}
 use Rattle.index.specs.declared.Index.{Index}
 use Rattle.index.specs.Arrays.{Arrays}
-use Rattle.index.specs.State.{Mark, dead, unkeyed, keyed, Slot, State, live, headerOf, capacity, stateOf}
+use Rattle.index.specs.State.{Mark, dead, unkeyed, keyed, Slot, State, live, headerOf, capacity, stateOf, newSlot, withMark, withBits}
 use Rattle.index.specs.Fit.{fit}
 use Rattle.index.specs.Codec.{encoded}
-use Rattle.index.specs.Step.{Op, setBits, add, addKeyed, addMulti, relabel, remove, removeAt, keyOf, contains, slotOf, enable, score, search, searchKeyed, searchCascade, compact, fileLength, write, Item, Answer, done, flag, slot, firstOf, when, Cell, liveFrom, holds, holdsAt, numberWhere, slotHolding, heldBy, isHeld, onMark, relabelled, filled, positionOf, overwritten, oneMore, rising, compacted, Outcome, answered, withSlots, guarded, appended, marked, widthSet, step}
+use Rattle.index.specs.Step.{Op, setBits, add, addKeyed, addMulti, relabel, remove, removeAt, keyOf, contains, slotOf, enable, score, search, searchKeyed, searchCascade, compact, fileLength, write, Item, Answer, done, flag, slot, firstOf, when, Cell, liveFrom, holds, holdsAt, numberWhere, slotHolding, heldBy, isHeld, onMark, relabelled, gapFilled, positionOf, overwritten, oneMore, rising, compacted, Outcome, answered, withSlots, guarded, appended, remarked, widthSet, step}
 use Rattle.index.specs.Call.{call}
 use Rattle.index.specs.Sound.{Shaped, AllShaped, marks, OnceEach, Ranged, Sound}
 use Rattle.index.proofs.Overlay.{SameLengths, overlay-lengths, read-back}
-use Rattle.index.proofs.Marks.{bit-one, and-right}
+use Rattle.lists.proofs.Tests.{and-right}
+use Rattle.index.proofs.Marks.{bit-one}
 use Rattle.index.proofs.Fits.{fit-sound, sound-fit}
 use Rattle.index.proofs.Refusals.{either-way}
 use Rattle.index.proofs.Encoded.{encoded-shaped}
@@ -47,7 +48,7 @@ live-count p d i [] = refl
 live-count p d i (s ∷ ss) = go (s .mark) (live-count p d (suc i) ss)
   where
     go : (m : Mark) → count (λ (c : Cell). p (c .slot .mark)) (liveFrom (suc i) ss) ≡ count p (marks ss) →
-        count (λ (c : Cell). p (c .slot .mark)) (liveFrom i (record { mark = m; code = s .code } ∷ ss)) ≡ bit (p m) + count p (marks ss)
+        count (λ (c : Cell). p (c .slot .mark)) (liveFrom i (withMark s m ∷ ss)) ≡ bit (p m) + count p (marks ss)
     go (dead u) ih = omega (arith, ap bit (d u))
     go (unkeyed u) ih = omega arith
     go (keyed k q) ih = omega arith
@@ -67,7 +68,7 @@ position-held j gap [] i e = absurd (let z : _≡_ {A = ℕ} 0 1 = cc in omega a
 position-held j gap (s ∷ ss) (suc i) e = omega (arith, position-held j gap ss i e)
 position-held j gap (s ∷ ss) zero e = go (s .mark) e
   where
-    go : (m : Mark) → positionOf j (some (record { mark = m; code = s .code })) ≡ some gap → 0 < bit (holdsAt j gap m) + count (holdsAt j gap) (marks ss)
+    go : (m : Mark) → positionOf j (some (withMark s m)) ≡ some gap → 0 < bit (holdsAt j gap m) + count (holdsAt j gap) (marks ss)
     go (dead u) f = absurd (let z : _≡_ {A = ℕ} 0 1 = cc in omega arith)
     go (unkeyed u) f = absurd (let z : _≡_ {A = ℕ} 0 1 = cc in omega arith)
     go (keyed k p) f = at (eqb k j) f
@@ -83,11 +84,11 @@ marks-onMark f ss = map-map (λ (s : Slot). s .mark) (onMark f) ss ∙ sym (map-
 
 module _ (seen : ℕ → ℕ) (s : Slot) (ss : List Slot) where
   -- the first slot of a compaction has its code still
-  rising-first : (next : ℕ → ℕ) × (m : Mark) × (rising seen (s ∷ ss) ≡ record { mark = m; code = s .code } ∷ rising next ss)
+  rising-first : (next : ℕ → ℕ) × (m : Mark) × (rising seen (s ∷ ss) ≡ withMark s m ∷ rising next ss)
   unfolding rising
   rising-first = go (s .mark)
     where
-      go : (m : Mark) → (next : ℕ → ℕ) × (n : Mark) × (rising seen (record { mark = m; code = s .code } ∷ ss) ≡ record { mark = n; code = s .code } ∷ rising next ss)
+      go : (m : Mark) → (next : ℕ → ℕ) × (n : Mark) × (rising seen (withMark s m ∷ ss) ≡ withMark s n ∷ rising next ss)
       go (dead u) = (seen, dead u, refl)
       go (unkeyed u) = (seen, unkeyed u, refl)
       go (keyed k p) = (oneMore k seen, keyed k (seen k), refl)
@@ -134,22 +135,23 @@ module _ (a : Arrays) (s : State) (t : Sound (capacity (s .header) a) s) where
   appended-kept m v o = guarded-kept _ _ (λ e. slots-kept false (s .slots ++ (new ∷ [])) _ (space e) shape (rw (map-append (λ (u : Slot). u .mark) (s .slots) (new ∷ [])) o))
     where
       new : Slot
-      new = record { mark = m; code = encoded (s .header) noSpare v }
+      new = newSlot m (encoded (s .header) noSpare v)
 
-      space : firstOf (fault (s .header) v ∷ when (leb room (length (s .slots))) 8 ∷ []) ≡ 0 → length (s .slots ++ (new ∷ [])) ≤ room
+      space : firstOf (fault (s .header) (v .vector) ∷ when (leb room (length (s .slots))) 8 ∷ []) ≡ 0 → length (s .slots ++ (new ∷ [])) ≤ room
       space e =
-          let w = first-none (when (leb room (length (s .slots))) 8) [] (first-none (fault (s .header) v) (when (leb room (length (s .slots))) 8 ∷ []) e .1) .0 in
+          let w = first-none (when (leb room (length (s .slots))) 8) [] (first-none (fault (s .header) (v .vector)) (when (leb room (length (s .slots))) 8 ∷ []) e .1) .0 in
           omega (arith, length-append (s .slots) (new ∷ []), leb-false room (length (s .slots)) (when-none (leb room (length (s .slots))) 7 w))
 
       shape : AllShaped (s .header) (s .slots ++ (new ∷ []))
       shape = each-append (λ u. Shaped (s .header) (u .code)) (s .slots) (new ∷ []) (t .shape) (encoded-shaped (s .header) noSpare v, tt)
 
-  marked-kept : (b : Bool) (f : Mark → Mark) → (b ≡ true → OnceEach (map f ms)) → Kept a (marked s b f)
-  unfolding marked
-  marked-kept true f o =
+  marked-kept : (b : Bool) (refusal : ℕ) (f : Mark → Mark) → (b ≡ true → OnceEach (map f ms)) → Kept a (remarked s b refusal f)
+  unfolding remarked
+  marked-kept true n f o =
+      guarded-kept n _ (λ e.
       slots-kept (s .cascade) (map (onMark f) (s .slots)) (flag true) (rw (length-map (s .slots) (onMark f)) (t .space))
-      (each-map (λ u. Shaped (s .header) (u .code)) (onMark f) (s .slots) (t .shape)) (rw (marks-onMark f (s .slots)) (o refl))
-  marked-kept false f o = answered-kept (flag false)
+      (each-map (λ u. Shaped (s .header) (u .code)) (onMark f) (s .slots) (t .shape)) (rw (marks-onMark f (s .slots)) (o refl)))
+  marked-kept false n f o = answered-kept (flag false)
 
   -- ---- call by call
 
@@ -163,14 +165,14 @@ module _ (a : Arrays) (s : State) (t : Sound (capacity (s .header) a) s) where
       plain false x e = refl
 
       header : firstOf (when (not (leb 4 w && leb w 6)) 5 ∷ when (ltb 0 (length (s .slots))) 6 ∷ when (s .header .residual && not (eqb w 4)) 7 ∷ []) ≡ 0 →
-          Ranged (record { dim = s .header .dim; working = s .header .working; seed = s .header .seed; width = w; residual = s .header .residual })
+          Ranged (withBits (s .header) w)
       header e =
           let later = first-none (when (not (leb 4 w && leb w 6)) 5) _ e in
           let last = first-none (when (s .header .residual && not (eqb w 4)) 7) [] (first-none (when (ltb 0 (length (s .slots))) 6) _ (later .1) .1) in
           record {
             dim = t .header .dim;
-            working = t .header .working;
-            width = not-false (leb 4 w && leb w 6) (when-none (not (leb 4 w && leb w 6)) 4 (later .0));
+            «working_dim» = t .header .«working_dim»;
+            bits = not-false (leb 4 w && leb w 6) (when-none (not (leb 4 w && leb w 6)) 4 (later .0));
             residual = plain (s .header .residual) (eqb w 4) (when-none (s .header .residual && not (eqb w 4)) 6 (last .0));
           }
 
@@ -207,7 +209,7 @@ module _ (a : Arrays) (s : State) (t : Sound (capacity (s .header) a) s) where
           once-relabelled ms (t .positions) j k (eqb-false j k f)
           (sym (held-count k) ∙ omega (arith, ltb-false 0 (heldBy k (liveFrom 0 (s .slots))) (not-true (isHeld k (liveFrom 0 (s .slots))) g)))
 
-  gap-kept : (j i gap : ℕ) → positionOf j (getElem? (s .slots) i) ≡ some gap → OnceEach (map (filled j gap (heldBy j (liveFrom 0 (s .slots)) - 1)) ms)
+  gap-kept : (j i gap : ℕ) → positionOf j (getElem? (s .slots) i) ≡ some gap → OnceEach (map (gapFilled j gap (heldBy j (liveFrom 0 (s .slots)) - 1)) ms)
   gap-kept j i gap e =
       let low : gap < count (holds j) ms = ltb-true gap (count (holds j) ms) (bit-one (ltb gap (count (holds j) ms)) (omega (arith, position-held j gap (s .slots) i e, t .positions j gap))) in
       once-filled ms (t .positions) j gap (heldBy j (liveFrom 0 (s .slots)) - 1) low (omega (arith, held-count j))
@@ -225,9 +227,9 @@ module _ (a : Arrays) (s : State) (t : Sound (capacity (s .header) a) s) where
   step-kept (add v) = appended-kept (unkeyed 0) v (once-unkeyed ms (t .positions) 0)
   step-kept (addKeyed j v) = either-way (Kept a) (slotHolding j 0 (liveFrom 0 (s .slots))) _ _ (first-kept j v) (λ i e. guarded-kept _ _ (λ f. overwritten-kept j v (slot i)))
   step-kept (addMulti j v) = multi-kept j v
-  step-kept (relabel j k) = marked-kept _ _ (relabel-kept j k)
-  step-kept (remove j) = marked-kept _ _ (λ e. once-removed ms (t .positions) j)
-  step-kept (removeAt j i) = either-way (Kept a) (positionOf j (getElem? (s .slots) i)) _ _ (λ e. answered-kept (flag false)) (λ gap e. marked-kept true _ (λ f. gap-kept j i gap e))
+  step-kept (relabel j k) = marked-kept _ 0 _ (relabel-kept j k)
+  step-kept (remove j) = marked-kept _ 0 _ (λ e. once-removed ms (t .positions) j)
+  step-kept (removeAt j i) = either-way (Kept a) (positionOf j (getElem? (s .slots) i)) _ _ (λ e. answered-kept (flag false)) (λ gap e. marked-kept true 0 _ (λ f. gap-kept j i gap e))
   step-kept (keyOf i) = answered-kept _
   step-kept (contains j) = answered-kept _
   step-kept (slotOf j i) = answered-kept _

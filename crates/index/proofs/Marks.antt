@@ -12,20 +12,13 @@ use borrow.Author.Tests.{ltb-true, eqb-true, lt-ltb, le-ltb, eq-eqb, ne-eqb}
 use Rattle.lists.specs.Keep.{bit, count, Each}
 use Rattle.lists.proofs.Keep.{each-mem, each-weaken, count-same, count-share, count-none, count-map}
 use Rattle.lists.proofs.Front.{each-count}
-use Rattle.index.specs.State.{Mark, dead, unkeyed, keyed, aliveOf, hasKey, keyWord, position}
+use Rattle.lists.proofs.Tests.{and-left, and-right}
+use Rattle.index.specs.State.{Mark, dead, unkeyed, keyed, isLive, markOf, aliveOf, hasKey, keyWord, position}
 use Rattle.index.specs.Fit.{Row, ofKey, ofKeyAt, positioned}
 use Rattle.index.specs.Step.{holds, holdsAt}
 use Rattle.index.specs.Sound.{OnceEach}
 
 -- ---- tests
-
-pub and-left : (b c : Bool) → (b && c) ≡ true → b ≡ true
-and-left true c e = refl
-and-left false c e = e
-
-pub and-right : (b c : Bool) → (b && c) ≡ true → c ≡ true
-and-right true c e = e
-and-right false c e = absurd (subst T (sym e) tt)
 
 pub bit-one : (b : Bool) → 0 < bit b → b ≡ true
 bit-one true l = refl
@@ -45,6 +38,12 @@ below-suc p h =
     above l = omega arith
 
 -- ---- the row of a mark
+
+-- a slot is live where its mark is not 0
+pub mark-live : (m : ℕ) (on : Bool) (k p : ℕ) → isLive (markOf m on k p) ≡ ltb 0 m
+mark-live zero on k p = refl
+mark-live (suc m) true k p = sym (lt-ltb 0 (suc m) (omega arith))
+mark-live (suc m) false k p = sym (lt-ltb 0 (suc m) (omega arith))
 
 abbrev pub rowOf : Mark → Row
 rowOf m = record { key = keyWord m; keyed = hasKey m; held = position m; alive = aliveOf m }

@@ -7,7 +7,7 @@ use Prim.Native.Nat.{ℕ, _*_, _/_, _≤_, _<_, min}
 use native.Mathlib.Nat.{mul-le-mul-right, div-mul-le-self}
 use native.Mathlib.Omega.{arith}
 use lib.ListN.{length, getD, length-map, List·getD-map}
-use Rattle.lists.specs.Lists.{tab, over}
+use Rattle.lists.specs.Lists.{tab, over, joined}
 use Rattle.lists.specs.Keep.{Each}
 use Rattle.lists.proofs.Laws.{length-over}
 use Rattle.lists.proofs.Keep.{each-weaken}
@@ -16,7 +16,7 @@ use Rattle.encode.specs.declared.Header.{Header}
 use Rattle.encode.specs.Header.{blockSize}
 use Rattle.codes.specs.Stage.{Stage}
 use Rattle.index.specs.Arrays.{Arrays}
-use Rattle.index.specs.State.{Mark, dead, unkeyed, keyed, Slot, State, rooms, least, capacity, markOf, stageAt, slotAt, stateOf, recordOf, aliveOf, hasKey, keyWord, position, joined, seconds, scalesOf, blocksOf, overlay}
+use Rattle.index.specs.State.{Mark, dead, unkeyed, keyed, Slot, State, rooms, least, capacity, markOf, stageAt, slotAt, stateOf, recordOf, aliveOf, hasKey, keyWord, position, seconds, scalesOf, blocksOf, overlay}
 use Rattle.index.specs.Sound.{Shaped, AllShaped, blockLength}
 use Rattle.index.proofs.Blocks.{block-over, length-over-blocks}
 

@@ -6,7 +6,7 @@ use mathlib.Core.Option.{Option, none, some}
 use Prim.Native.Nat.{ℕ, suc, _*_, _≤_, _<_}
 use native.Mathlib.Omega.{arith}
 use lib.ListN.{length, set, length-map}
-use Rattle.lists.specs.Lists.{over, splice}
+use Rattle.lists.specs.Lists.{over, splice, joined}
 use Rattle.lists.specs.Keep.{Each}
 use Rattle.lists.proofs.Laws.{length-over}
 use Rattle.lists.proofs.Keep.{each-append, each-weaken}
@@ -15,7 +15,7 @@ use Rattle.encode.specs.declared.Header.{Header}
 use Rattle.encode.specs.Header.{blockSize}
 use Rattle.codes.specs.Stage.{Stage}
 use Rattle.index.specs.Arrays.{Arrays}
-use Rattle.index.specs.State.{Slot, capacity, aliveOf, hasKey, keyWord, position, joined, seconds, scalesOf, blocksOf, overlay, putSlot}
+use Rattle.index.specs.State.{Slot, capacity, aliveOf, hasKey, keyWord, position, seconds, scalesOf, blocksOf, overlay, putSlot}
 use Rattle.index.specs.Sound.{Shaped, AllShaped}
 use Rattle.index.proofs.Blocks.{joined-append, length-joined}
 use Rattle.index.proofs.Overlay.{roomy, plain-none, residual-some, plain-seconds, residual-seconds, secondOf}

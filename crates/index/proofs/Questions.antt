@@ -7,7 +7,7 @@ use Prim.Native.Nat.{ℕ, zero, suc}
 use lib.ListN.{length, length-map}
 use lib.Dec.{ltb, eqb}
 use lib.Ieee.{Float, isNan}
-use Rattle.lists.specs.Keep.{Each}
+use Rattle.lists.specs.Keep.{Each, any}
 use Rattle.lists.proofs.Keep.{count-map}
 use Rattle.lists.proofs.Front.{each-map}
 use Rattle.choose.specs.Choose.{choose}
@@ -15,7 +15,7 @@ use Rattle.choose.proofs.Choice.{choose-map, choose-each}
 use Rattle.encode.specs.declared.Header.{Header}
 use Rattle.index.specs.State.{Mark, State}
 use Rattle.index.specs.File.{fileOf}
-use Rattle.index.specs.Step.{Op, search, searchKeyed, contains, slotOf, fileLength, write, Query, Answer, refused, done, flag, slot, maybeSlot, maybeKey, scoreIs, hits, keyHits, size, bytes, firstOf, when, unless, any, Cell, liveFrom, holdsAt, cellHolds, heldBy, isHeld, numberWhere, slotHolding, Hit, rank, queryRefusal, shortResult, bySlot, byKey, hitsOf, hitOf, searched, entryOf, fileBytes, answered, step}
+use Rattle.index.specs.Step.{Op, search, searchKeyed, contains, slotOf, fileLength, write, Query, Answer, refused, done, flag, slot, maybeSlot, maybeKey, scoreIs, hits, keyHits, size, bytes, firstOf, when, unless, Cell, liveFrom, holdsAt, cellHolds, heldBy, isHeld, numberWhere, slotHolding, Hit, rank, queryRefusal, shortResult, bySlot, byKey, hitsOf, hitOf, searched, entryOf, fileBytes, answered, step}
 
 -- ---- renumbering
 

@@ -3,14 +3,15 @@ use mathlib.Core.Path.{_≡_, refl, sym, ap, ap₂, _∙_}
 use mathlib.Core.Bool.{Bool, true, false, not, cond, _||_}
 use mathlib.Core.List.{List, [], _∷_, map}
 use mathlib.Core.Option.{Option, none, some}
-use Prim.Native.Nat.{ℕ, zero, suc, _+_, _*_, _≤_, _<_}
+use Prim.Native.Nat.{ℕ, zero, suc, _*_, _≤_, _<_}
 use native.Mathlib.Nat.{suc-mul, mul-le-mul-right}
 use native.Mathlib.Omega.{arith}
 use lib.ListN.{length, drop, length-drop}
+use lib.Seq.{drop-drop}
 use lib.Dec.{eqb}
 use borrow.Author.Tests.{le-leb, ltb-false, eqb-true, eqb-false, ne-eqb}
 use Rattle.lists.specs.Lists.{tab}
-use Rattle.lists.specs.Keep.{bit, Each}
+use Rattle.lists.specs.Keep.{Each}
 use Rattle.lists.proofs.Laws.{length-tab}
 use Rattle.lists.proofs.Keep.{keep-all}
 use Rattle.lists.proofs.Front.{each-tab}
@@ -19,11 +20,12 @@ use Rattle.index.specs.declared.Index.{Index}
 use Rattle.index.specs.declared.Made.{Made}
 use Rattle.index.specs.declared.Made.the-variants as Made
 use Rattle.index.specs.Arrays.{Arrays}
-use Rattle.index.specs.State.{Mark, dead, unkeyed, keyed, Slot, isLive, live, capacity, stateOf, recordOf, overlay}
+use Rattle.index.specs.State.{Mark, dead, unkeyed, keyed, Slot, isLive, live, capacity, stateOf, recordOf, overlay, withMark}
 use Rattle.index.specs.Fit.{between, fit}
 use Rattle.index.specs.Step.{firstOf, oneMore, rising, compacted}
 use Rattle.index.specs.Sound.{blockLength, Shaped, AllShaped, marks, OnceEach, Ranged, Sound}
-use Rattle.index.specs.Read.{known, scaleSize, hasWidth, hasSecond, versionIn, dimIn, countIn, workingField, headerIn, headFault, stageFrom, wellKeyed, keyFrom, markFrom, firstLength, secondLength, stagesIn, secondIn, tableIn, tableLength, entriesIn, slotIn, slotsIn, stateIn, readRefusal, readUnless, readInto}
+use Rattle.index.specs.Form.{formOf, stagesAt, secondAt, keysAt, endAt}
+use Rattle.index.specs.Read.{versionIn, formIn, dimIn, countIn, workingField, headerIn, headFault, stageFrom, wellKeyed, keyFrom, markFrom, firstLength, secondLength, stagesIn, secondIn, tableIn, tableLength, statedEnd, tailIn, entriesIn, slotIn, slotsIn, stateIn, readRefusal, readUnless, readInto}
 use Rattle.index.proofs.Blocks.{length-block}
 use Rattle.index.proofs.Overlay.{read-back}
 use Rattle.index.proofs.Fits.{sound-fit}
@@ -41,10 +43,10 @@ or-none true c e = absurd (let z : _≡_ {A = ℕ} 0 1 = cc in omega arith)
 or-none false c e = (refl, e)
 
 pub record Accepted (file : List ℕ) (a : Arrays) : Type 0 where
-  pub known : known (versionIn file) ≡ true
+  pub known : formIn file .known ≡ true
   pub working : workingField file ≤ dimIn file
-  pub long : 24 + bit (hasWidth (versionIn file)) ≤ length file
-  pub width : between 4 6 (headerIn file .width) ≡ true
+  pub long : stagesAt (formIn file) ≤ length file
+  pub width : between 4 6 (headerIn file .bits) ≡ true
   pub dim-high : dimIn file ≤ 4096
   pub space : countIn file ≤ capacity (headerIn file) a
   pub first : firstLength file ≤ length (stagesIn file)
@@ -78,6 +80,39 @@ accepted file a e =
       keys = not-not _ (when-none _ 18 (t .1 .1 .1 .1 .1 .1 .0));
     }
 
+-- ---- the stated end
+
+module _ (file : List ℕ) where
+  abbrev w : ℕ
+  w = blockSize (headerIn file)
+
+  -- each block begins where the layout says
+  pub second-at : secondIn file ≡ drop (secondAt (formIn file) w (countIn file)) file
+  second-at = drop-drop (firstLength file) (stagesAt (formIn file)) file
+
+  pub table-at : tableIn file ≡ drop (keysAt (formIn file) w (countIn file)) file
+  table-at = ap (drop (secondLength file)) second-at ∙ drop-drop (secondLength file) (secondAt (formIn file) w (countIn file)) file
+
+  -- what follows the last block begins at the stated end
+  pub tail-at : drop (tableLength file) (tableIn file) ≡ tailIn file
+  unfolding endAt
+  tail-at = ap (drop (tableLength file)) table-at ∙ drop-drop (tableLength file) (keysAt (formIn file) w (countIn file)) file
+
+  -- and no accepted file ends before it
+  pub end-there : (a : Arrays) → Accepted file a → statedEnd file ≤ length file
+  unfolding endAt
+  end-there a t =
+      omega (
+        arith,
+        t .long,
+        t .first,
+        t .second,
+        t .table,
+        length-drop (stagesAt (formIn file)) file,
+        length-drop (firstLength file) (stagesIn file),
+        length-drop (secondLength file) (secondIn file),
+      )
+
 -- ---- rising order
 
 pub rising-again : (seen : ℕ → ℕ) (ss : List Slot) → rising seen (rising seen ss) ≡ rising seen ss
@@ -86,7 +121,7 @@ rising-again seen [] = refl
 rising-again seen (s ∷ ss) = go (s .mark) (λ next. rising-again next ss)
   where
     go : (m : Mark) → ((next : ℕ → ℕ) → rising next (rising next ss) ≡ rising next ss) →
-        rising seen (rising seen (record { mark = m; code = s .code } ∷ ss)) ≡ rising seen (record { mark = m; code = s .code } ∷ ss)
+        rising seen (rising seen (withMark s m ∷ ss)) ≡ rising seen (withMark s m ∷ ss)
     go (dead u) ih = rw (ih seen)
     go (unkeyed u) ih = rw (ih seen)
     go (keyed k p) ih = rw (ih (oneMore k seen))
@@ -99,7 +134,7 @@ rising-each P any seen [] h = tt
 rising-each P any seen (s ∷ ss) h = go (s .mark) (h .0) (λ next. rising-each P any next ss (h .1))
   where
     go : (m : Mark) → P m → ((next : ℕ → ℕ) → Each (λ s. P (s .mark)) (rising next ss)) →
-        Each (λ s. P (s .mark)) (rising seen (record { mark = m; code = s .code } ∷ ss))
+        Each (λ s. P (s .mark)) (rising seen (withMark s m ∷ ss))
     go (dead u) e ih = (e, ih seen)
     go (unkeyed u) e ih = (e, ih seen)
     go (keyed k p) e ih = (any k p (seen k) e, ih (oneMore k seen))
@@ -155,40 +190,40 @@ module _ (file : List ℕ) where
 
   module _ (a : Arrays) (t : Accepted file a) where
     header-ranged : Ranged (headerIn file)
-    unfolding headerIn
+    unfolding headerIn formOf
     header-ranged =
         record {
           dim = rw (le-leb 1 (dimIn file) (t .dim), le-leb (dimIn file) 4096 (t .dim-high));
-          working = go (workingField file) (t .working);
-          width = t .width;
-          residual = plain (hasSecond (versionIn file)) refl;
+          «working_dim» = go (workingField file) (t .working);
+          bits = t .width;
+          residual = plain (formIn file .second) refl;
         }
       where
         go : (f : ℕ) → f ≤ dimIn file → between 1 (dimIn file) (cond (eqb f 0) (dimIn file) f) ≡ true
         go zero l = rw (le-leb 1 (dimIn file) (t .dim)) (le-leb (dimIn file) (dimIn file) (omega arith))
         go (suc f) l = rw (ne-eqb (suc f) 0 (λ e. absurd (omega arith)), le-leb 1 (suc f) (omega arith)) (le-leb (suc f) (dimIn file) l)
 
-        plain : (b : Bool) → hasSecond (versionIn file) ≡ b → (not b || eqb (headerIn file .width) 4) ≡ true
+        plain : (b : Bool) → formIn file .second ≡ b → (not b || eqb (headerIn file .bits) 4) ≡ true
         plain true e = rw (eqb-true (versionIn file) 260 e)
         plain false e = refl
 
     stage-sized : (bytes : List ℕ) → firstLength file ≤ length bytes → (i : ℕ) → i < countIn file →
-        length (stageFrom (versionIn file) (blockSize (headerIn file)) (countIn file) bytes i .block) ≡ blockSize (headerIn file)
+        length (stageFrom (formIn file) (blockSize (headerIn file)) (countIn file) bytes i .block) ≡ blockSize (headerIn file)
     unfolding stageFrom
     stage-sized bytes l i k =
         let w : ℕ = blockSize (headerIn file) in
         let m : suc i * w ≤ countIn file * w = mul-le-mul-right w k in
-        length-block w i (drop (countIn file * scaleSize (versionIn file)) bytes)
-        (rw (length-drop (countIn file * scaleSize (versionIn file)) bytes) (omega (arith, suc-mul i w)))
+        length-block w i (drop (countIn file * formIn file .scale) bytes)
+        (rw (length-drop (countIn file * formIn file .scale) bytes) (omega (arith, suc-mul i w)))
 
     loose-shaped : AllShaped (headerIn file) loose
     unfolding slotIn headerIn
     loose-shaped =
         each-tab (λ s. Shaped (headerIn file) (s .code)) (slotIn file) (countIn file)
-        (λ i l. record { first = stage-sized (stagesIn file) (t .first) i l; second = go (hasSecond (versionIn file)) i l (t .second) })
+        (λ i l. record { first = stage-sized (stagesIn file) (t .first) i l; second = go (formIn file .second) i l (t .second) })
       where
         go : (b : Bool) (i : ℕ) → i < countIn file → cond b (firstLength file) 0 ≤ length (secondIn file) →
-            blockLength (cond b (some (stageFrom (versionIn file) (blockSize (headerIn file)) (countIn file) (secondIn file) i)) none) ≡ cond b (some (blockSize (headerIn file))) none
+            blockLength (cond b (some (stageFrom (formIn file) (blockSize (headerIn file)) (countIn file) (secondIn file) i)) none) ≡ cond b (some (blockSize (headerIn file))) none
         go true i l k = ap some (stage-sized (secondIn file) k i l)
         go false i l k = refl
 

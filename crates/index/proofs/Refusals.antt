@@ -9,7 +9,7 @@ use Rattle.index.specs.declared.Index.{Index}
 use Rattle.index.specs.Arrays.{Arrays}
 use Rattle.index.specs.State.{Mark, keyed, State, headerOf, capacity, stateOf, recordOf, overlay}
 use Rattle.index.specs.Fit.{fit}
-use Rattle.index.specs.Step.{Op, setBits, add, addKeyed, addMulti, relabel, remove, removeAt, keyOf, contains, slotOf, enable, score, search, searchKeyed, searchCascade, compact, fileLength, write, Answer, refused, done, flag, slot, maybeSlot, maybeKey, scoreIs, hits, keyHits, size, bytes, liveFrom, slotHolding, positionOf, Item, Outcome, answered, guarded, appended, marked, widthSet, step}
+use Rattle.index.specs.Step.{Op, setBits, add, addKeyed, addMulti, relabel, remove, removeAt, keyOf, contains, slotOf, enable, score, search, searchKeyed, searchCascade, compact, fileLength, write, Answer, refused, done, flag, slot, maybeSlot, maybeKey, scoreIs, hits, keyHits, size, bytes, liveFrom, slotHolding, positionOf, Item, Outcome, answered, guarded, appended, remarked, widthSet, step}
 use Rattle.index.specs.Call.{call}
 use Rattle.index.proofs.Fits.{overlay-self, record-self}
 
@@ -51,10 +51,10 @@ module _ (s : State) where
   unfolding appended
   appended-stays room m v = guarded-stays _ _ refl
 
-  marked-stays : (b : Bool) (f : Mark → Mark) → Stays s (marked s b f)
-  unfolding marked
-  marked-stays true f = accepted-stays _ refl
-  marked-stays false f = answered-stays (flag false)
+  marked-stays : (b : Bool) (refusal : ℕ) (f : Mark → Mark) → Stays s (remarked s b refusal f)
+  unfolding remarked
+  marked-stays true n f = guarded-stays n _ refl
+  marked-stays false n f = answered-stays (flag false)
 
   step-stays : (room : ℕ) (op : Op) → Stays s (step room s op)
   unfolding step widthSet
@@ -62,9 +62,9 @@ module _ (s : State) where
   step-stays room (add v) = appended-stays room _ v
   step-stays room (addKeyed j v) = either-way (Stays s) (slotHolding j 0 (liveFrom 0 (s .slots))) _ _ (λ e. appended-stays room (keyed j 0) v) (λ i e. guarded-stays _ _ refl)
   step-stays room (addMulti j v) = appended-stays room _ v
-  step-stays room (relabel j k) = marked-stays _ _
-  step-stays room (remove j) = marked-stays _ _
-  step-stays room (removeAt j i) = either-way (Stays s) (positionOf j (getElem? (s .slots) i)) _ _ (λ e. answered-stays (flag false)) (λ gap e. marked-stays true _)
+  step-stays room (relabel j k) = marked-stays _ _ _
+  step-stays room (remove j) = marked-stays _ _ _
+  step-stays room (removeAt j i) = either-way (Stays s) (positionOf j (getElem? (s .slots) i)) _ _ (λ e. answered-stays (flag false)) (λ gap e. marked-stays true _ _)
   step-stays room (keyOf i) = answered-stays _
   step-stays room (contains j) = answered-stays _
   step-stays room (slotOf j i) = answered-stays _

@@ -12,11 +12,11 @@ pub record Result : Type 0 where
   pub arrays : Arrays
   pub answer : Answer
 
-abbrev pub written : Arrays → Outcome → Result
-written a o = record { index = recordOf (o .state); arrays = overlay a (o .state .slots); answer = o .answer }
+abbrev pub laidOver : Arrays → Outcome → Result
+laidOver a o = record { index = recordOf (o .state); arrays = overlay a (o .state .slots); answer = o .answer }
 
 -- 01: 13 "comes first". Else the call is that of the value which the record and the arrays stand for.
 unfoldable pub call : Index → Arrays → Op → Result
 call x a op =
     cond (misfit x a) (record { index = x; arrays = a; answer = refused 13 })
-    (written a (step (capacity (headerOf x) a) (stateOf x a) op))
+    (laidOver a (step (capacity (headerOf x) a) (stateOf x a) op))

@@ -12,7 +12,8 @@ use Rattle.half.specs.Half.{narrowed}
 use Rattle.encode.specs.declared.Header.{Header}
 use Rattle.codes.specs.Stage.{Stage}
 use Rattle.encode.specs.Coded.{Code}
-use Rattle.index.specs.State.{joined}
+use Rattle.lists.specs.Lists.{joined}
+use Rattle.index.specs.Form.{formOf}
 
 -- what of a live slot is written
 pub record Entry : Type 0 where
@@ -20,22 +21,23 @@ pub record Entry : Type 0 where
   pub key : Option ℕ
 
 -- a number in n bytes, lowest first
-abbrev pub le : (n : ℕ) → ℕ → List ℕ
-le n v = digits 256 n v
+abbrev pub leBytes : (n : ℕ) → ℕ → List ℕ
+leBytes n v = digits 256 n v
 
 -- the bytes 56 45 43 51
 abbrev pub magic : List ℕ
 magic = 0x56 ∷ 0x45 ∷ 0x43 ∷ 0x51 ∷ []
 
-abbrev pub versionOf : Header → ℕ
-versionOf h = cond (h .residual) 260 (cond (eqb (h .width) 4) 259 261)
+-- The version that an index with these entries is written as. So far the header alone decides; a version may go by the entries too.
+unfoldable pub versionOf : Header → List Entry → ℕ
+versionOf h es = cond (h .residual) 260 (cond (eqb (h .bits) 4) 259 261)
 
-abbrev pub widthByte : Header → List ℕ
-widthByte h = cond (eqb (versionOf h) 261) (h .width ∷ []) []
+abbrev pub widthByte : (version : ℕ) → Header → List ℕ
+widthByte v h = cond (formOf v .width) (h .bits ∷ []) []
 
 -- the scales of stages, as halves, then their codes
 abbrev pub stageBytes : List Stage → List ℕ
-stageBytes gs = joined (map (λ g. le 2 (narrowed (g .scale))) gs) ++ joined (map (λ g. g .block) gs)
+stageBytes gs = joined (map (λ g. leBytes 2 (narrowed (g .scale))) gs) ++ joined (map (λ g. g .block) gs)
 
 unfoldable pub secondStages : List Entry → List Stage
 secondStages [] = []
@@ -44,16 +46,16 @@ secondStages (e ∷ es) = elim (e .code .second) [ none ↦ secondStages es | so
 -- the key entries, the first slot of the list having the number i
 unfoldable pub keyEntries : ℕ → List Entry → List (List ℕ)
 keyEntries i [] = []
-keyEntries i (e ∷ es) = elim (e .key) [ none ↦ keyEntries (suc i) es | some k ↦ (le 4 i ++ le 8 k) ∷ keyEntries (suc i) es ]
+keyEntries i (e ∷ es) = elim (e .key) [ none ↦ keyEntries (suc i) es | some k ↦ (leBytes 4 i ++ leBytes 8 k) ∷ keyEntries (suc i) es ]
 
 -- the first 24 bytes, for n live slots
-abbrev pub headBytes : Header → (n : ℕ) → List ℕ
-headBytes h n =
-    magic ++ le 2 (versionOf h) ++ le 2 (cond (eqb (h .working) (h .dim)) 0 (h .working)) ++ le 4 (h .dim) ++ le 8 (h .seed) ++ le 4 n
+abbrev pub headBytes : (version : ℕ) → Header → (n : ℕ) → List ℕ
+headBytes v h n =
+    magic ++ leBytes 2 v ++ leBytes 2 (cond (eqb (h .«working_dim») (h .dim)) 0 (h .«working_dim»)) ++ leBytes 4 (h .dim) ++ leBytes 8 (h .seed) ++ leBytes 4 n
 
--- The blocks in their order. Where each begins is said in the crate `layout`.
+-- The blocks in their order. Where each begins: `Form`.
 unfoldable pub fileOf : Header → List Entry → List ℕ
 fileOf h es =
-    headBytes h (length es) ++ widthByte h
+    headBytes (versionOf h es) h (length es) ++ widthByte (versionOf h es) h
     ++ stageBytes (map (λ e. e .code .first) es) ++ stageBytes (secondStages es)
-    ++ le 4 (length (keyEntries 0 es)) ++ joined (keyEntries 0 es)
+    ++ leBytes 4 (length (keyEntries 0 es)) ++ joined (keyEntries 0 es)

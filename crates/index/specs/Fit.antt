@@ -1,7 +1,7 @@
 -- Refusal 13, "record and lent arrays misfit", for the index's part. Document 01: "13 means exactly: an array too short (the index's, for the slots in use; ..), a record
 -- field outside its range, a residual record of width 5 or 6, over 65,536 slots in use, a live mark other than 0 or 1, a wrong live count, a key on a dead slot, or a key's t
 -- slots not holding positions 0 to t-1 once each (unkeyed and dead hold 0)."
-use mathlib.Core.Bool.{Bool, true, false, not, cond, _&&_, _||_}
+use mathlib.Core.Bool.{Bool, false, not, cond, _&&_, _||_}
 use mathlib.Core.List.{List, [], _∷_}
 use Prim.Native.Nat.{ℕ}
 use lib.ListN.{getD}
@@ -9,16 +9,8 @@ use lib.Dec.{leb, ltb, eqb}
 use Rattle.lists.specs.Lists.{tab}
 use Rattle.index.specs.declared.Index.{Index}
 use Rattle.index.specs.Arrays.{Arrays}
-use Rattle.lists.specs.Keep.{count}
+use Rattle.lists.specs.Keep.{every, all, count}
 use Rattle.index.specs.State.{headerOf, capacity}
-
-unfoldable pub every : List Bool → Bool
-every [] = true
-every (t ∷ ts) = t && every ts
-
-unfoldable pub all : {A : Type 0} → (A → Bool) → List A → Bool
-all p [] = true
-all p (x ∷ xs) = p x && all p xs
 
 abbrev pub between : ℕ → ℕ → ℕ → Bool
 between low high x = leb low x && leb x high

@@ -3,6 +3,7 @@ pub mod Arrays
 pub mod State
 pub mod Fit
 pub mod Codec
+pub mod Form
 pub mod File
 pub mod Step
 pub mod Call

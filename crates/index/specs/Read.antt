@@ -1,52 +1,28 @@
--- Reading: document 01, "format.rs, byte form", taken apart block by block in the order in which `fileOf` puts them together. Where each block begins, and the file's stated
--- end, is said in the crate `layout`; what follows that end counts for nothing here and is named `tailIn`.
+-- Reading: document 01, "format.rs, byte form", taken apart block by block in the order in which `fileOf` puts them together, with what the file's version has. What
+-- follows the stated end counts for nothing here and is named `tailIn`.
 use mathlib.Core.Bool.{Bool, false, not, cond, _&&_, _||_}
 use mathlib.Core.List.{List, [], _∷_, map}
 use mathlib.Core.Option.{Option, none, some}
 use Prim.Native.Nat.{ℕ, zero, suc, _+_, _*_}
 use lib.ListN.{length, take, drop}
-use lib.Dec.{leb, ltb, eqb}
+use lib.Dec.{ltb, eqb}
 use Rattle.lists.specs.Lists.{tab}
-use Rattle.lists.specs.Keep.{bit, count}
+use Rattle.lists.specs.Keep.{count, all}
 use Rattle.digits.specs.Digits.{number}
 use Rattle.half.specs.Half.{widened}
 use Rattle.codes.specs.Slots.{blockAt}
 use Rattle.codes.specs.Stage.{Stage}
 use Rattle.encode.specs.declared.Header.{Header}
 use Rattle.encode.specs.Header.{blockSize}
-use Rattle.index.specs.declared.Made.{Made}
+use Rattle.index.specs.declared.Form.{Form}
 use Rattle.index.specs.declared.Made.the-variants as Made
 use Rattle.index.specs.Arrays.{Arrays}
 use Rattle.index.specs.State.{Mark, unkeyed, keyed, Slot, State, capacity, recordOf, overlay}
-use Rattle.index.specs.Fit.{all, between}
+use Rattle.index.specs.Fit.{between}
+use Rattle.index.specs.Form.{formOf, stagesAt, tableSize, stageSize, endAt}
 use Rattle.index.specs.File.{magic}
 use Rattle.index.specs.Step.{firstOf, when, rising}
-
--- ---- what the versions have
-
--- "Written: 259 at 4 bits, 260 residual, 261 at 5 and 6. Read: also 1 .., 257, 258"
-abbrev pub known : (version : ℕ) → Bool
-known v = eqb v 1 || between 257 261 v
-
--- "1 (binary32 scales)", else halves
-abbrev pub scaleSize : (version : ℕ) → ℕ
-scaleSize v = cond (eqb v 1) 4 2
-
--- "width byte for 261"
-abbrev pub hasWidth : (version : ℕ) → Bool
-hasWidth v = eqb v 261
-
--- "for 260 again scales and codes"
-abbrev pub hasSecond : (version : ℕ) → Bool
-hasSecond v = eqb v 260
-
--- "1 .., 257, 258, none with keys"
-abbrev pub hasKeys : (version : ℕ) → Bool
-hasKeys v = leb 259 v
-
--- "1 and 257 ignore the working_dim field"
-abbrev pub hasWorking : (version : ℕ) → Bool
-hasWorking v = leb 258 v
+use Rattle.index.specs.Make.{Begun, begun}
 
 -- ---- the head
 
@@ -58,6 +34,9 @@ module _ (file : List ℕ) where
   abbrev pub versionIn : ℕ
   versionIn = littleEndian 2 (drop 4 file)
 
+  abbrev pub formIn : Form
+  formIn = formOf versionIn
+
   abbrev pub dimIn : ℕ
   dimIn = littleEndian 4 (drop 8 file)
 
@@ -67,17 +46,17 @@ module _ (file : List ℕ) where
 
   -- the working_dim field, 0 where it is ignored
   abbrev pub workingField : ℕ
-  workingField = cond (hasWorking versionIn) (littleEndian 2 (drop 6 file)) 0
+  workingField = cond (formIn .working) (littleEndian 2 (drop 6 file)) 0
 
   -- "working_dim 16-bit (0 if it equals dim)"; a version without a width byte has 4 bits
   unfoldable pub headerIn : Header
   headerIn =
       record {
         dim = dimIn;
-        working = cond (eqb workingField 0) dimIn workingField;
+        «working_dim» = cond (eqb workingField 0) dimIn workingField;
         seed = littleEndian 8 (drop 12 file);
-        width = cond (hasWidth versionIn) (littleEndian 1 (drop 24 file)) 4;
-        residual = hasSecond versionIn;
+        bits = cond (formIn .width) (littleEndian 1 (drop 24 file)) 4;
+        residual = formIn .second;
       }
 
   -- "Reading: 14, 15, 16, 17, 14 (width byte), 18"
@@ -86,34 +65,26 @@ module _ (file : List ℕ) where
       firstOf
       (when (ltb (length file) 24) 14
       ∷ when (not (eqb (littleEndian 4 file) (littleEndian 4 magic))) 15
-      ∷ when (not (known versionIn)) 16
+      ∷ when (not (formIn .known)) 16
       ∷ when (ltb dimIn workingField) 17
-      ∷ when (ltb (length file) (24 + bit (hasWidth versionIn))) 14
-      ∷ when (not (between 4 6 (headerIn .width))) 18
+      ∷ when (ltb (length file) (stagesAt formIn)) 14
+      ∷ when (not (between 4 6 (headerIn .bits))) 18
       ∷ [])
 
   -- 20 for dim and count alone
   abbrev pub overLimits : Bool
   overLimits = ltb 4096 dimIn || ltb 65536 countIn
 
--- ---- stages: of this version, with n slots and blocks of w bytes
+-- ---- stages: of this form, with n slots and blocks of w bytes
 
--- a half reads as its value, a NaN "with its fraction moved up 13 places"
-abbrev pub scaleFrom : (version : ℕ) → ℕ → ℕ
-scaleFrom v x = cond (eqb v 1) x (widened x)
+-- a scale of 4 bytes is its pattern; a half reads as its value, a NaN "with its fraction moved up 13 places"
+abbrev pub scaleFrom : Form → ℕ → ℕ
+scaleFrom f x = cond (eqb (f .scale) 4) x (widened x)
 
-module _ (v w n : ℕ) where
-  -- "scales; codes"
-  abbrev pub stageLength : ℕ
-  stageLength = n * scaleSize v + n * w
-
-  -- of slot i, from bytes that begin with the scales
-  unfoldable pub stageFrom : (bytes : List ℕ) → (i : ℕ) → Stage
-  stageFrom bytes i =
-      record {
-        scale = scaleFrom v (littleEndian (scaleSize v) (drop (i * scaleSize v) bytes));
-        block = blockAt w i (drop (n * scaleSize v) bytes);
-      }
+-- of slot i, from bytes that begin with the scales
+unfoldable pub stageFrom : Form → (w n : ℕ) → (bytes : List ℕ) → (i : ℕ) → Stage
+stageFrom f w n bytes i =
+    record { scale = scaleFrom f (littleEndian (f .scale) (drop (i * f .scale) bytes)); block = blockAt w i (drop (n * f .scale) bytes) }
 
 -- ---- key entries
 
@@ -143,15 +114,15 @@ markFrom (some k) = keyed k 0
 
 module _ (file : List ℕ) where
   abbrev pub firstLength : ℕ
-  firstLength = stageLength (versionIn file) (blockSize (headerIn file)) (countIn file)
+  firstLength = stageSize (formIn file) (blockSize (headerIn file)) (countIn file)
 
   -- a second stage is as long as the first
   abbrev pub secondLength : ℕ
-  secondLength = cond (hasSecond (versionIn file)) firstLength 0
+  secondLength = cond (formIn file .second) firstLength 0
 
   -- what remains of the file after the head, after the first stage, after both
   abbrev pub stagesIn : List ℕ
-  stagesIn = drop (24 + bit (hasWidth (versionIn file))) file
+  stagesIn = drop (stagesAt (formIn file)) file
 
   abbrev pub secondIn : List ℕ
   secondIn = drop firstLength stagesIn
@@ -160,24 +131,28 @@ module _ (file : List ℕ) where
   tableIn = drop secondLength secondIn
 
   abbrev pub entryCount : ℕ
-  entryCount = cond (hasKeys (versionIn file)) (littleEndian 4 tableIn) 0
+  entryCount = cond (formIn file .keys) (littleEndian 4 tableIn) 0
 
   abbrev pub tableLength : ℕ
-  tableLength = cond (hasKeys (versionIn file)) (4 + entryCount * 12) 0
+  tableLength = tableSize (formIn file) entryCount
 
-  -- what follows the last block: "Trailing bytes are ignored"
+  -- where the last block ends
+  abbrev pub statedEnd : ℕ
+  statedEnd = endAt (formIn file) (blockSize (headerIn file)) (countIn file) entryCount
+
+  -- what follows: "Trailing bytes are ignored"
   abbrev pub tailIn : List ℕ
-  tailIn = drop tableLength tableIn
+  tailIn = drop statedEnd file
 
   unfoldable pub entriesIn : List KeyEntry
   entriesIn = tab (entryFrom tableIn) entryCount
 
   unfoldable pub slotIn : (i : ℕ) → Slot
   slotIn i =
-      let stage = stageFrom (versionIn file) (blockSize (headerIn file)) (countIn file) in
+      let stage = stageFrom (formIn file) (blockSize (headerIn file)) (countIn file) in
       record {
         mark = markFrom (keyFrom entriesIn i);
-        code = record { first = stage stagesIn i; second = cond (hasSecond (versionIn file)) (some (stage secondIn i)) none };
+        code = record { first = stage stagesIn i; second = cond (formIn file .second) (some (stage secondIn i)) none };
       }
 
   -- "`compact` and reading restore rising order"
@@ -200,15 +175,10 @@ module _ (file : List ℕ) where
       ∷ when (not (wellKeyed (countIn file) (map (λ e. e .slot) entriesIn))) 19
       ∷ [])
 
--- what `from_bytes` hands back and leaves
-pub record Reading : Type 0 where
-  pub answer : Made
-  pub arrays : Arrays
-
 -- "A refusal returns its number and changes nothing lent." What is read stands over the first places, and all further places are kept.
-abbrev pub readUnless : (refusal : ℕ) → Arrays → (file : List ℕ) → Reading
-readUnless zero a file = record { answer = Made.Index (recordOf (stateIn file)); arrays = overlay a (slotsIn file) }
-readUnless (suc n) a file = record { answer = Made.Refused (suc n); arrays = a }
+abbrev pub readUnless : (refusal : ℕ) → Arrays → (file : List ℕ) → Begun
+readUnless zero a file = begun (Made.Index (recordOf (stateIn file))) (overlay a (slotsIn file))
+readUnless (suc n) a file = begun (Made.Refused (suc n)) a
 
-unfoldable pub readInto : Arrays → (file : List ℕ) → Reading
+unfoldable pub readInto : Arrays → (file : List ℕ) → Begun
 readInto a file = readUnless (readRefusal file a) a file

@@ -37,9 +37,9 @@ OnceEach ms = (k p : ℕ) → count (holdsAt k p) ms ≡ bit (ltb p (count (hold
 -- a header whose fields are in their ranges
 pub record Ranged (h : Header) : Type 0 where
   pub dim : between 1 4096 (h .dim) ≡ true
-  pub working : between 1 (h .dim) (h .working) ≡ true
-  pub width : between 4 6 (h .width) ≡ true
-  pub residual : (not (h .residual) || eqb (h .width) 4) ≡ true
+  pub «working_dim» : between 1 (h .dim) (h .«working_dim») ≡ true
+  pub bits : between 4 6 (h .bits) ≡ true
+  pub residual : (not (h .residual) || eqb (h .bits) 4) ≡ true
 
 -- a value that arrays with room for so many slots can hold
 pub record Sound (room : ℕ) (s : State) : Type 0 where

@@ -1,10 +1,10 @@
 -- The index as a value: what a record and the lent arrays stand for, and how a value is written back over them.
 use mathlib.Core.Bool.{Bool, true, false, cond}
-use mathlib.Core.List.{List, [], _∷_, _++_, map}
+use mathlib.Core.List.{List, [], _∷_, map}
 use mathlib.Core.Option.{none, some}
 use Prim.Native.Nat.{ℕ, zero, suc, _*_, _/_, min}
 use lib.ListN.{length, getD, set}
-use Rattle.lists.specs.Lists.{tab, over, splice}
+use Rattle.lists.specs.Lists.{tab, joined, over, splice}
 use Rattle.lists.specs.Keep.{count}
 use Rattle.codes.specs.Slots.{blockAt}
 use Rattle.encode.specs.declared.Header.{Header}
@@ -26,6 +26,16 @@ pub record Slot : Type 0 where
   pub mark : Mark
   pub code : Code
 
+abbrev pub newSlot : Mark → Code → Slot
+newSlot m c = record { mark = m; code = c }
+
+-- a slot with another mark, and with another code: all else stays
+abbrev pub withMark : Slot → Mark → Slot
+withMark s m = newSlot m (s .code)
+
+abbrev pub withCode : Slot → Code → Slot
+withCode s c = newSlot (s .mark) c
+
 -- 01, "slots in use": dead ones included
 pub record State : Type 0 where
   pub header : Header
@@ -43,7 +53,28 @@ live s = isLive (s .mark)
 -- ---- what a record and arrays stand for
 
 abbrev pub headerOf : Index → Header
-headerOf x = record { dim = x .dim; working = x .«working_dim»; seed = x .seed; width = x .bits; residual = x .residual }
+headerOf x = record { dim = x .dim; «working_dim» = x .«working_dim»; seed = x .seed; bits = x .bits; residual = x .residual }
+
+abbrev pub withBits : Header → (bits : ℕ) → Header
+withBits h w = record { dim = h .dim; «working_dim» = h .«working_dim»; seed = h .seed; bits = w; residual = h .residual }
+
+-- the record of a header with these counts
+abbrev pub recordWith : Header → (n live : ℕ) → (cascade : Bool) → Index
+recordWith h n live on =
+    record {
+      dim = h .dim;
+      «working_dim» = h .«working_dim»;
+      seed = h .seed;
+      bits = h .bits;
+      residual = h .residual;
+      n = n;
+      live = live;
+      cascade = on;
+    }
+
+-- the same record with other counts, its cascade kept or ended
+abbrev pub withCounts : Index → (n live : ℕ) → (cascade : Bool) → Index
+withCounts x n live on = recordWith (headerOf x) n live on
 
 -- How many slots each lent array of the index holds: "residual arrays only if residual" (01, 8).
 unfoldable pub rooms : Header → Arrays → List ℕ
@@ -87,17 +118,7 @@ stateOf x a =
 
 -- the record of a value: the live count is that of its slots
 unfoldable pub recordOf : State → Index
-recordOf s =
-    record {
-      dim = s .header .dim;
-      «working_dim» = s .header .working;
-      seed = s .header .seed;
-      bits = s .header .width;
-      residual = s .header .residual;
-      n = length (s .slots);
-      live = count live (s .slots);
-      cascade = s .cascade;
-    }
+recordOf s = recordWith (s .header) (length (s .slots)) (count live (s .slots)) (s .cascade)
 
 abbrev pub aliveOf : Mark → ℕ
 aliveOf (dead u) = 0
@@ -118,10 +139,6 @@ abbrev pub position : Mark → ℕ
 position (dead u) = 0
 position (unkeyed u) = 0
 position (keyed k p) = p
-
-unfoldable pub joined : List (List ℕ) → List ℕ
-joined [] = []
-joined (b ∷ bs) = b ++ joined bs
 
 -- the second stages, of a residual index alone
 unfoldable pub seconds : List Slot → List Stage

@@ -6,23 +6,17 @@ use Prim.Native.Nat.{ℕ, zero, suc, _-_, min, max}
 use lib.ListN.{length, getElem?}
 use lib.Dec.{leb, ltb, eqb}
 use lib.Ieee.{Float, isNan}
-use Rattle.lists.specs.Keep.{keep, count}
+use Rattle.lists.specs.Keep.{any, keep, count}
 use Rattle.choose.specs.Choose.{choose}
 use Rattle.score.specs.Order.{orderNumber}
+pub use Rattle.unit.specs.Brought.{Item, itemOf, Query, queryOf}
 use Rattle.encode.specs.declared.Header.{Header}
 use Rattle.encode.specs.Coded.{fault, noSpare, spareOf}
-use Rattle.index.specs.State.{Mark, dead, unkeyed, keyed, Slot, State, live}
+use Rattle.index.specs.State.{Mark, dead, unkeyed, keyed, Slot, State, live, withBits, newSlot, withCode, withMark}
 use Rattle.index.specs.Codec.{tiny, encoded, scoreOf, distance}
 use Rattle.index.specs.File.{Entry, fileOf}
 
 -- ---- calls and answers
-
--- A vector to add and a query are payloads of their own, since a later call may bring more with either.
-abbrev pub Item : Type 0
-Item = List Float
-
-abbrev pub Query : Type 0
-Query = List Float
 
 -- `places` is how many places the lent results or the lent file have
 pub data Op : Type 0 where
@@ -66,10 +60,6 @@ when b n = cond b n 0
 abbrev pub unless : ℕ → Answer → Answer
 unless zero a = a
 unless (suc n) a = refused (suc n)
-
-unfoldable pub any : {A : Type 0} → (A → Bool) → List A → Bool
-any p [] = false
-any p (x ∷ xs) = p x || any p xs
 
 -- ---- questions of the live slots. They look at a slot's number only to answer it.
 
@@ -132,7 +122,7 @@ rank x = orderNumber (x .score)
 -- 1, 2, 3; 10, "a slot to score"; 12, "a score to be ranked .. is NaN"
 unfoldable pub queryRefusal : Header → Query → List Hit → ℕ
 queryRefusal h q xs =
-    firstOf (fault h q ∷ when (tiny h && ltb 0 (length xs)) 10 ∷ when (any (λ x. isNan (x .score)) xs) 12 ∷ [])
+    firstOf (fault h (q .vector) ∷ when (tiny h && ltb 0 (length xs)) 10 ∷ when (any (λ x. isNan (x .score)) xs) 12 ∷ [])
 
 -- 01, 13: "a result, keyed too, for min(max(k,1), live) places"
 abbrev pub shortResult : (k live places : ℕ) → ℕ
@@ -176,17 +166,17 @@ unfoldable pub searchedCascade : State → List Cell → Query → (k r places :
 searchedCascade s cs q k r places =
     let h = s .header in
     let xs = hitsOf h q (candidates h q (wide k r (length cs)) cs) in
-    unless (firstOf (shortResult k (length cs) places ∷ when (not (s .cascade && eqb (h .width) 4)) 11 ∷ queryRefusal h q xs ∷ []))
+    unless (firstOf (shortResult k (length cs) places ∷ when (not (s .cascade && eqb (h .bits) 4)) 11 ∷ queryRefusal h q xs ∷ []))
     (hits (map bySlot (choose rank k xs)))
 
 -- ---- questions about one slot, a dead one too
 
 -- 1, 2, 3, 9, 10, 12
 unfoldable pub scoreAnswer : Header → Query → Option Slot → Answer
-scoreAnswer h q none = unless (firstOf (fault h q ∷ 9 ∷ [])) done
+scoreAnswer h q none = unless (firstOf (fault h (q .vector) ∷ 9 ∷ [])) done
 scoreAnswer h q (some s) =
     let x = scoreOf h q (s .code) in
-    unless (firstOf (fault h q ∷ when (tiny h) 10 ∷ when (isNan x) 12 ∷ [])) (scoreIs x)
+    unless (firstOf (fault h (q .vector) ∷ when (tiny h) 10 ∷ when (isNan x) 12 ∷ [])) (scoreIs x)
 
 -- 01: "a slot past those in use has no key"
 abbrev pub keyAnswer : Option Slot → Option ℕ
@@ -204,7 +194,7 @@ fileBytes h cs = fileOf h (map entryOf cs)
 -- ---- changes
 
 abbrev pub onMark : (Mark → Mark) → Slot → Slot
-onMark f s = record { mark = f (s .mark); code = s .code }
+onMark f s = withMark s (f (s .mark))
 
 -- a removed slot is dead, and the word of its key stays
 abbrev pub removed : (key : ℕ) → Mark → Mark
@@ -218,10 +208,10 @@ relabelled j k (unkeyed u) = unkeyed u
 relabelled j k (keyed i p) = cond (eqb i j) (keyed k p) (keyed i p)
 
 -- 01, store.rs: "`remove_keyed_at` moves the last held slot to the gap". The slot at the gap dies, and the one at the last position takes the gap's.
-abbrev pub filled : (key gap last : ℕ) → Mark → Mark
-filled j gap last (dead u) = dead u
-filled j gap last (unkeyed u) = unkeyed u
-filled j gap last (keyed k p) = cond (eqb k j) (cond (eqb p gap) (dead k) (cond (eqb p last) (keyed k gap) (keyed k p))) (keyed k p)
+abbrev pub gapFilled : (key gap last : ℕ) → Mark → Mark
+gapFilled j gap last (dead u) = dead u
+gapFilled j gap last (unkeyed u) = unkeyed u
+gapFilled j gap last (keyed k p) = cond (eqb k j) (cond (eqb p gap) (dead k) (cond (eqb p last) (keyed k gap) (keyed k p))) (keyed k p)
 
 -- the position that a slot holds of the key
 abbrev pub positionOf : (key : ℕ) → Option Slot → Option ℕ
@@ -229,7 +219,7 @@ positionOf j none = none
 positionOf j (some s) = elim (s .mark) [ dead u ↦ none | unkeyed u ↦ none | keyed k p ↦ cond (eqb k j) (some p) none ]
 
 abbrev pub overwritten : Header → (key : ℕ) → Item → Slot → Slot
-overwritten h j v s = record { mark = s .mark; code = cond (holdsAt j 0 (s .mark)) (encoded h (spareOf h (s .code)) v) (s .code) }
+overwritten h j v s = withCode s (cond (holdsAt j 0 (s .mark)) (encoded h (spareOf h (s .code)) v) (s .code))
 
 -- rising held order: each key's slots hold 0, 1, 2 in slot order. `seen` says how many slots of each key came before.
 abbrev pub oneMore : (key : ℕ) → (ℕ → ℕ) → ℕ → ℕ
@@ -241,7 +231,7 @@ rising seen (s ∷ ss) =
     elim (s .mark) [
       | dead u ↦ s ∷ rising seen ss
       | unkeyed u ↦ s ∷ rising seen ss
-      | keyed k p ↦ record { mark = keyed k (seen k); code = s .code } ∷ rising (oneMore k seen) ss
+      | keyed k p ↦ withMark s (keyed k (seen k)) ∷ rising (oneMore k seen) ss
     ]
 
 -- what a compaction leaves of the slots
@@ -271,12 +261,13 @@ unfoldable pub appended : (room : ℕ) → State → Mark → Item → Outcome
 appended room s m v =
     let h = s .header in
     let n = length (s .slots) in
-    guarded s (firstOf (fault h v ∷ when (leb room n) 8 ∷ []))
-    (record { state = withSlots s false (s .slots ++ (record { mark = m; code = encoded h noSpare v } ∷ [])); answer = slot n })
+    guarded s (firstOf (fault h (v .vector) ∷ when (leb room n) 8 ∷ []))
+    (record { state = withSlots s false (s .slots ++ (newSlot m (encoded h noSpare v) ∷ [])); answer = slot n })
 
--- a change of every slot's mark, with a yes or no
-unfoldable pub marked : State → Bool → (Mark → Mark) → Outcome
-marked s holds f = cond holds (record { state = withSlots s (s .cascade) (map (onMark f) (s .slots)); answer = flag true }) (answered s (flag false))
+-- a change of every slot's mark: no, or a refusal, or yes
+unfoldable pub remarked : State → Bool → (refusal : ℕ) → (Mark → Mark) → Outcome
+remarked s holds refusal f =
+    cond holds (guarded s refusal (record { state = withSlots s (s .cascade) (map (onMark f) (s .slots)); answer = flag true })) (answered s (flag false))
 
 -- A width call: 5, 6, 7; "so does an accepted width call" end the cascade.
 unfoldable pub widthSet : State → ℕ → Outcome
@@ -284,7 +275,7 @@ widthSet s w =
     let h = s .header in
     guarded s (firstOf (when (not (leb 4 w && leb w 6)) 5 ∷ when (ltb 0 (length (s .slots))) 6 ∷ when (h .residual && not (eqb w 4)) 7 ∷ []))
     (record {
-      state = record { header = record { dim = h .dim; working = h .working; seed = h .seed; width = w; residual = h .residual }; cascade = false; slots = [] };
+      state = record { header = withBits h w; cascade = false; slots = [] };
       answer = done;
     })
 
@@ -295,23 +286,23 @@ step room s (addKeyed j v) =
     let cs = liveFrom 0 (s .slots) in
     elim (slotHolding j 0 cs) [
       | none ↦ appended room s (keyed j 0) v
-      | some i ↦ guarded s (fault (s .header) v) (record { state = withSlots s false (map (overwritten (s .header) j v) (s .slots)); answer = slot i })
+      | some i ↦ guarded s (fault (s .header) (v .vector)) (record { state = withSlots s false (map (overwritten (s .header) j v) (s .slots)); answer = slot i })
     ]
 step room s (addMulti j v) = appended room s (keyed j (heldBy j (liveFrom 0 (s .slots)))) v
 step room s (relabel j k) =
     let cs = liveFrom 0 (s .slots) in
-    marked s (isHeld j cs && (eqb j k || not (isHeld k cs))) (relabelled j k)
-step room s (remove j) = marked s (isHeld j (liveFrom 0 (s .slots))) (removed j)
+    remarked s (isHeld j cs && (eqb j k || not (isHeld k cs))) 0 (relabelled j k)
+step room s (remove j) = remarked s (isHeld j (liveFrom 0 (s .slots))) 0 (removed j)
 step room s (removeAt j i) =
     elim (positionOf j (getElem? (s .slots) i)) [
       | none ↦ answered s (flag false)
-      | some gap ↦ marked s true (filled j gap (heldBy j (liveFrom 0 (s .slots)) - 1))
+      | some gap ↦ remarked s true 0 (gapFilled j gap (heldBy j (liveFrom 0 (s .slots)) - 1))
     ]
 step room s (keyOf i) = answered s (maybeKey (keyAnswer (getElem? (s .slots) i)))
 step room s (contains j) = answered s (flag (isHeld j (liveFrom 0 (s .slots))))
 step room s (slotOf j i) = answered s (maybeSlot (slotHolding j i (liveFrom 0 (s .slots))))
 step room s enable =
-    guarded s (when (not (eqb (s .header .width) 4)) 11) (record { state = withSlots s true (s .slots); answer = done })
+    guarded s (when (not (eqb (s .header .bits) 4)) 11) (record { state = withSlots s true (s .slots); answer = done })
 step room s (score i q) = answered s (scoreAnswer (s .header) q (getElem? (s .slots) i))
 step room s (search q k places) = answered s (searched (s .header) (liveFrom 0 (s .slots)) q k places (λ xs. hits (map bySlot xs)))
 step room s (searchKeyed q k places) = answered s (searched (s .header) (liveFrom 0 (s .slots)) q k places (λ xs. keyHits (byKey [] xs)))

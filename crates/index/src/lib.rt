@@ -1,4 +1,4 @@
-// The record of an index, the answers of its calls, and the specification that all of them cite (specs/).
+// The record of an index, the answers of its calls, what a version of a file has, and the specification that all of them cite (specs/).
 
 // What the index is beside its lent arrays. It goes in by value and comes back in the answer.
 pub struct Index {
@@ -62,4 +62,15 @@ pub enum Found {
 pub enum Written {
     Bytes(usize),
     Refused(u8),
+}
+
+// What a version of the byte form has: whether it is read, how many bytes a scale takes, and whether there is a width byte, a second stage, a key table,
+// a working_dim field that counts.
+pub struct Form {
+    pub known: bool,
+    pub scale: u8,
+    pub width: bool,
+    pub second: bool,
+    pub keys: bool,
+    pub working: bool,
 }

@@ -45,8 +45,8 @@ pub fn key_of(
     if n <= slot {
         return Keyed::None;
     }
-    if held::is_keyed(keyed, slot) {
-        return Keyed::Key(held::key_word(keys, slot));
+    if slot_keys::is_keyed(keyed, slot) {
+        return Keyed::Key(slot_keys::key_word(keys, slot));
     }
     Keyed::None
 }

@@ -8,7 +8,7 @@ use native.Mathlib.Omega.{arith}
 use lib.ListN.{length, getD, length-map}
 use lib.Dec.{ltb}
 use borrow.Author.Tests.{lt-ltb}
-use Rattle.lists.specs.Lists.{tab}
+use Rattle.lists.specs.Lists.{tab, below}
 use Rattle.lists.specs.Keep.{bit, keep, count, Each}
 use Rattle.lists.proofs.Laws.{length-tab}
 use Rattle.lists.proofs.Keep.{count-length, count-map, count-keep-implied, length-keep, each-keep}
@@ -17,8 +17,9 @@ use Rattle.encode.specs.declared.Header.{Header}
 use Rattle.encode.specs.Header.{blockSize}
 use Rattle.index.specs.declared.Index.{Index}
 use Rattle.index.specs.Arrays.{Arrays}
-use Rattle.index.specs.State.{isLive, live, headerOf, capacity, markOf, slotAt, stateOf}
+use Rattle.index.specs.State.{live, headerOf, capacity, markOf, slotAt, stateOf}
 use Rattle.index.specs.Fit.{fit}
+use Rattle.index.specs.Form.{formOf, endAt}
 use Rattle.index.specs.File.{Entry, versionOf, fileOf}
 use Rattle.index.specs.Step.{liveFrom, keyOfMark, entryOf, fileBytes, fileLength, size, answered, step}
 use Rattle.index.specs.Call.{call}
@@ -26,16 +27,16 @@ use Rattle.index.specs.Answers.{result}
 use Rattle.index.specs.Sound.{Shaped}
 use Rattle.index.proofs.Fits.{slots-shaped}
 use Rattle.index.proofs.Calls.{call-answered}
+use Rattle.index.proofs.Marks.{mark-live}
 use Rattle.positions.proofs.Slots.{count-last}
 use Rattle.fit.specs.Fits.{Fits}
 use Rattle.fit.proofs.Rooms.{enough, in-width}
 use Rattle.fit.proofs.Meaning.{meaning}
-use Rattle.held.specs.Held.{below}
 use Rattle.held.proofs.Live.{cellAt, live-tab}
 use Rattle.codes.specs.Writing.{atWidth}
 use Rattle.layout.specs.declared.Counts.{Counts}
-use Rattle.layout.specs.Layout.{formOf, endAt}
-use Rattle.layout.specs.Counts.{liveAt, entryAt, countsOf}
+use Rattle.marks.specs.Live.{liveAt}
+use Rattle.layout.specs.Counts.{entryAt, countsOf}
 use Rattle.layout.proofs.Length.{hasOne, file-length}
 use Rattle.layout.proofs.Numbers.{small-block}
 
@@ -48,11 +49,6 @@ pub count-few : (p : ℕ → Bool) (n : ℕ) → count p (below n) ≤ n
 count-few p n = omega (arith, count-length p (below n), length-tab (λ (i : ℕ). i) n)
 
 -- ---- marks
-
-mark-live : (m : ℕ) (on : Bool) (k p : ℕ) → isLive (markOf m on k p) ≡ ltb 0 m
-mark-live zero on k p = refl
-mark-live (suc m) true k p = sym (lt-ltb 0 (suc m) (omega arith))
-mark-live (suc m) false k p = sym (lt-ltb 0 (suc m) (omega arith))
 
 mark-entry : (m : ℕ) (on : Bool) (k p : ℕ) → hasOne (keyOfMark (markOf m on k p)) ≡ (ltb 0 m && on)
 mark-entry zero on k p = refl
@@ -103,11 +99,11 @@ module _ (h : Header) (a : Arrays) where
 
     -- after the first s slots the counts give the length of the file that the live ones among them make
     pub prefix-length : length (fileBytes h (liveFrom 0 (tab (slotAt h a) s)))
-        ≡ endAt (formOf (versionOf h)) (blockSize h) (countsOf (a .keyed) (a .alive) s .live) (countsOf (a .keyed) (a .alive) s .keyed)
+        ≡ endAt (formOf (versionOf h (map slotEntry (numbers s)))) (blockSize h) (countsOf (a .keyed) (a .alive) s .live) (countsOf (a .keyed) (a .alive) s .keyed)
     unfolding countsOf
     prefix-length =
         ap (λ (es : List Entry). length (fileOf h es)) (entries-are s) ∙ file-length h (map slotEntry (numbers s)) shaped
-        ∙ ap₂ (endAt (formOf (versionOf h)) (blockSize h)) (live-many s) (keyed-many s)
+        ∙ ap₂ (endAt (formOf (versionOf h (map slotEntry (numbers s)))) (blockSize h)) (live-many s) (keyed-many s)
 
 -- ---- the call
 
@@ -130,11 +126,13 @@ module _ (x : Index) (a : Arrays) (e : fit x a ≡ true) where
       rw f
       (omega (arith, few-slots, count-few (liveAt (a .alive)) (x .n)), omega (arith, few-slots, count-few (entryAt (a .keyed) (a .alive)) (x .n)))
 
-  pub length-is : (counts : Counts) (block bytes : ℕ) → counts ≡ countsOf (a .keyed) (a .alive) (x .n) → block ≡ blockSize (headerOf x)
-      → bytes ≡ endAt (formOf (versionOf (headerOf x))) block (counts .live) (counts .keyed)
+  pub length-is : (counts : Counts) (version block bytes : ℕ) → counts ≡ countsOf (a .keyed) (a .alive) (x .n)
+      → ((es : List Entry) → version ≡ versionOf (headerOf x) es) → block ≡ blockSize (headerOf x)
+      → bytes ≡ endAt (formOf version) block (counts .live) (counts .keyed)
       → bytes ≡ length (fileBytes (headerOf x) (liveFrom 0 (stateOf x a .slots)))
   unfolding stateOf
-  length-is counts block bytes f g k = k ∙ rw (f, g) (sym (prefix-length (headerOf x) a (x .n) (fits .room)))
+  length-is counts version block bytes f v g k =
+      k ∙ rw (f, g, v (map (slotEntry (headerOf x) a) (numbers (headerOf x) a (x .n)))) (sym (prefix-length (headerOf x) a (x .n) (fits .room)))
 
   pub length-call : (bytes : ℕ) → bytes ≡ length (fileBytes (headerOf x) (liveFrom 0 (stateOf x a .slots))) → result x a (size bytes) ≡ call x a fileLength
   unfolding step stateOf

@@ -3,14 +3,10 @@ use mathlib.Core.Bool.{Bool, false, _&&_}
 use mathlib.Core.List.{List}
 use Prim.Native.Nat.{ℕ}
 use lib.ListN.{getD}
-use lib.Dec.{ltb}
 use Rattle.lists.specs.Keep.{count}
-use Rattle.held.specs.Held.{below}
+use Rattle.lists.specs.Lists.{below}
+use Rattle.marks.specs.Live.{liveAt}
 use Rattle.layout.specs.declared.Counts.{Counts}
-
--- a slot's live mark; past the end of its array a slot is dead
-abbrev pub liveAt : (alive : List ℕ) → (slot : ℕ) → Bool
-liveAt alive i = ltb 0 (getD alive i 0)
 
 -- a slot that has a key entry
 abbrev pub entryAt : (keyed : List Bool) → (alive : List ℕ) → (slot : ℕ) → Bool

@@ -1,3 +1,2 @@
--- The layout of a file, and the counts that fix its length.
-pub mod Layout
+-- The counts that fix the length of a file.
 pub mod Counts

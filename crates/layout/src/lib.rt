@@ -1,4 +1,4 @@
-// The layout of a file: what each version has, where the file ends, and how long the file of an index is.
+// The layout of a file: where it ends, and how long the file of an index is.
 ghost use mathlib.Core.Path.{_≡_};
 ghost use Prim.Native.Nat.{_≤_};
 ghost use Rattle.lists.specs.Keep.{bit};
@@ -6,59 +6,14 @@ ghost use Rattle.codes.specs.Writing.{atWidth};
 ghost use Rattle.encode.specs.Header.{blockSize};
 ghost use Rattle.index.specs.Arrays.{lent};
 ghost use Rattle.index.specs.State.{headerOf};
-ghost use Rattle.index.specs.File.{versionOf};
+ghost use Rattle.index.specs.Form.{formOf, stageSize, keysAt, endAt};
 ghost use Rattle.index.specs.Step.{fileLength};
 ghost use Rattle.index.specs.Call.{call};
 ghost use Rattle.index.specs.Answers.{result, lengthIs};
-ghost use Rattle.layout.specs.Layout.{formOf, stageSize, keysAt, endAt};
-ghost use Rattle.layout.specs.Counts.{liveAt, entryAt, countsOf};
+ghost use Rattle.layout.specs.Counts.{entryAt, countsOf};
+use index::Form;
 use index::Index;
 use index::Written;
-
-// ---- versions
-
-// What a version of the byte form has: how many bytes a scale takes, and whether there is a width byte, a second stage, a key table.
-pub struct Form {
-    pub scale: u8,
-    pub width: bool,
-    pub second: bool,
-    pub keys: bool,
-}
-
-// How many bytes a scale takes: version 1 alone has binary32 scales.
-fn scale_size(version: u16) -> u8
-    ensures { λ r. ⌜ r ≡ (formOf version) .scale ⌝ }
-{
-    if version == 1 {
-        return 4;
-    }
-    2
-}
-
-// What a version has.
-fn form_of(version: u16) -> Form
-    ensures { λ r. ⌜ r ≡ formOf version ⌝ }
-{
-    Form {
-        scale: scale_size(version),
-        width: version == 261,
-        second: version == 260,
-        keys: 259 <= version,
-    }
-}
-
-// The version that an index is written as.
-pub fn version_of(index: Index) -> u16
-    ensures { λ r. ⌜ r ≡ versionOf (headerOf index) ⌝ }
-{
-    if index.residual {
-        return 260;
-    }
-    if index.bits == 4 {
-        return 259;
-    }
-    261
-}
 
 // ---- places
 
@@ -110,19 +65,12 @@ pub struct Counts {
     pub keyed: usize,
 }
 
-// Whether a slot is live.
-pub fn is_live(alive: &[u8], slot: usize) -> bool
-    ensures { λ r. ⌜ r ≡ liveAt (now (alive .entry)) slot ⌝ }
-{
-    0 < fit::live_mark(alive, slot)
-}
-
 // Whether a slot has a key entry: it is live and has a key.
 pub fn has_entry(keyed: &[bool], alive: &[u8], slot: usize) -> bool
     ensures { λ r. ⌜ r ≡ entryAt (now (keyed .entry)) (now (alive .entry)) slot ⌝ }
 {
-    if is_live(alive, slot) {
-        return held::is_keyed(keyed, slot);
+    if marks::is_live(alive, slot) {
+        return slot_keys::is_keyed(keyed, slot);
     }
     false
 }
@@ -135,7 +83,7 @@ pub fn count_slots(keyed: &[bool], alive: &[u8], n: usize) -> Counts
     let mut entries: usize = 0;
     let mut i: usize = 0;
     while i < n {
-        live += one_if(is_live(alive, i));
+        live += one_if(marks::is_live(alive, i));
         entries += one_if(has_entry(keyed, alive, i));
         i += 1;
     }
@@ -154,13 +102,13 @@ pub fn block_size(index: Index) -> usize
     codes::bytes_per_vector(padding::padded_dim(index.working_dim), index.bits)
 }
 
-// The length of the file of an index with these counts, its blocks being so many bytes.
-fn length_of(index: Index, block: usize, counts: Counts) -> usize
+// The length of a file of this version with these counts, its blocks being so many bytes.
+fn length_of(version: u16, block: usize, counts: Counts) -> usize
     requires { ⌜ (block ≤ 4096) × (counts .live ≤ 65536) × (counts .keyed ≤ 65536) ⌝ }
-    ensures { λ r. ⌜ r ≡ endAt (formOf (versionOf (headerOf index))) block (counts .live) (counts .keyed) ⌝ }
+    ensures { λ r. ⌜ r ≡ endAt (formOf version) block (counts .live) (counts .keyed) ⌝ }
 {
     end_at(
-        form_of(version_of(index)),
+        form::form_of(version),
         block as u16,
         counts.live as u32,
         counts.keyed as u32,
@@ -180,7 +128,8 @@ pub fn file_length(
     scales2: &[u32],
 ) -> Written
     ensures { λ r. ⌜
-        result index (lent (codes .entry) (scales .entry) (keys .entry) (keyed .entry) (held .entry) (alive .entry) (codes2 .entry) (scales2 .entry)) (lengthIs r)
+        result index (lent (codes .entry) (scales .entry) (keys .entry) (keyed .entry) (held .entry) (alive .entry) (codes2 .entry) (scales2 .entry))
+        (lengthIs r)
         ≡ call index (lent (codes .entry) (scales .entry) (keys .entry) (keyed .entry) (held .entry) (alive .entry) (codes2 .entry) (scales2 .entry))
         fileLength ⌝ }
 {
@@ -196,7 +145,7 @@ pub fn file_length(
         scales2,
     ) {
         let found = count_slots(keyed, alive, index.n);
-        return Written::Bytes(length_of(index, block_size(index), found));
+        return Written::Bytes(length_of(form::version_of(index), block_size(index), found));
     }
     Written::Refused(13)
 }

@@ -75,7 +75,7 @@ fn put_answer(out: &mut [u8], line: &[u8], c: usize, x: Numbers) -> usize {
     }
     if c < 7 {
         let r = reply_to(c, x.a, x.b);
-        return print::put_hex(out, 0, r.value, r.width);
+        return numerals::put_hex(out, 0, r.value, r.width);
     }
     put_run(out, line, c, x)
 }
@@ -169,7 +169,7 @@ fn reply_to(c: usize, a: u64, b: u64) -> Reply {
         3 => shown(padding::padded_dim(a as usize) as u64, 1),
         4 => shown(lloyd::levels((a % 0x100) as u8) as u64, 1),
         5 => shown(quantizer::quantize(float(b), (a % 0x100) as u8) as u64, 1),
-        _ => shown_float(quantizer::dequantize((b % 0x100) as u8, (a % 0x100) as u8)),
+        _ => shown_float(dequantizer::dequantize((b % 0x100) as u8, (a % 0x100) as u8)),
     }
 }
 
@@ -221,7 +221,7 @@ fn put_halves(out: &mut [u8], from: u64, to: u64) -> usize {
     let mut at = 0;
     let mut h = from;
     while h < to {
-        at = print::put_hex(
+        at = numerals::put_hex(
             out,
             at,
             half::f16_bits_to_f32((h % 0x10000) as u16) as u64,
@@ -246,13 +246,13 @@ fn put_narrows_of(out: &mut [u8], at: usize, h: u16) -> usize {
     let p = half::f16_bits_to_f32(h);
     let magnitude = h % 0x8000;
     if 0x7C00 < magnitude {
-        return print::put_hex(out, at, narrow(p), 4);
+        return numerals::put_hex(out, at, narrow(p), 4);
     }
-    let next = print::put_hex(out, at, around(p), 12);
+    let next = numerals::put_hex(out, at, around(p), 12);
     if magnitude == 0x7C00 {
         return next;
     }
-    print::put_hex(out, next, around(midpoint(h)), 12)
+    numerals::put_hex(out, next, around(midpoint(h)), 12)
 }
 
 fn narrow(p: u32) -> u64
@@ -299,7 +299,7 @@ fn put_transformed(out: &mut [u8], line: &[u8], i: usize, rotated: bool, x: Numb
 
 fn put_fwht(out: &mut [u8], v: &mut [f32]) -> usize {
     fwht::fwht(v);
-    print::put_vector(out, 0, v)
+    numerals::put_vector(out, 0, v)
 }
 
 fn put_rotated(out: &mut [u8], rotation: Rhdh, v: &[f32]) -> usize {
@@ -313,5 +313,5 @@ fn put_rotated(out: &mut [u8], rotation: Rhdh, v: &[f32]) -> usize {
 
 fn put_applied(out: &mut [u8], rotation: Rhdh, v: &[f32], w: &mut [f32]) -> usize {
     rotation.apply(v, w);
-    print::put_vector(out, 0, w)
+    numerals::put_vector(out, 0, w)
 }

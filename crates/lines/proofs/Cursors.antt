@@ -9,10 +9,10 @@ use lib.Dec.{T}
 use lib.ListN.{length}
 use Rattle.lines.specs.declared.Span.{Span}
 use Rattle.lines.specs.declared.Cursor.{Cursor}
-use Rattle.lines.specs.Lines.{Within, NoNewline, empty, passedOver, atRest, Handed}
+use Rattle.lines.specs.Lines.{Within, NoNewline, noSpan, passedOver, atRest, Handed}
 use Rattle.lines.proofs.Newlines.{none}
 
-pub within-empty : (n : ℕ) → Within n empty
+pub within-empty : (n : ℕ) → Within n noSpan
 within-empty n = record { ordered = le-refl 0; inside = zero-le }
 
 pub line-handed : (buf : List ℕ) (line rest : Span) (left : ℕ) → Within (length buf) line → NoNewline buf (line .from) (line .to) → Within (length buf) rest

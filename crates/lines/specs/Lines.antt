@@ -17,12 +17,12 @@ pub record Within (n : ℕ) (s : Span) : Type 0 where
 pub record NoNewline (buf : List ℕ) (a b : ℕ) : Type 0 where
   pub clean : (k : ℕ) → a ≤ k → k < b → getD buf k 0 ≡ 10 → ⊥
 
-abbrev pub empty : Span
-empty = record { from = 0; to = 0 }
+abbrev pub noSpan : Span
+noSpan = record { from = 0; to = 0 }
 
 -- the part where it lies within n bytes, else an empty one
 unfoldable pub clipped : ℕ → Span → Span
-clipped n s = cond (leb (s .to) n && leb (s .from) (s .to)) s empty
+clipped n s = cond (leb (s .to) n && leb (s .from) (s .to)) s noSpan
 
 -- the bytes of a part
 abbrev pub partOf : List ℕ → Span → List ℕ
@@ -30,16 +30,16 @@ partOf buf s = take (s .to - s .from) (drop (s .from) buf)
 
 -- nothing is handed out and nothing is unread, as before the first line and, with a count of 0, at the end
 abbrev pub atRest : ℕ → Cursor
-atRest left = record { line = empty; long = false; unread = empty; left = left }
+atRest left = record { line = noSpan; long = false; unread = noSpan; left = left }
 
 -- a line too long, after which the part `rest` is unread
 abbrev pub passedOver : Span → ℕ → Cursor
-passedOver rest left = record { line = empty; long = true; unread = rest; left = left }
+passedOver rest left = record { line = noSpan; long = true; unread = rest; left = left }
 
 -- each part lies within the buffer, the line has no newline in it and is empty where it was passed over, and the count went down from `before`
 pub record Handed (buf : List ℕ) (before : ℕ) (c : Cursor) : Type 0 where
   pub line : Within (length buf) (c .line)
   pub clean : NoNewline buf (c .line .from) (c .line .to)
-  pub passed : c .long ≡ true → c .line ≡ empty
+  pub passed : c .long ≡ true → c .line ≡ noSpan
   pub unread : Within (length buf) (c .unread)
   pub fewer : c .left ≤ before - 1

@@ -11,9 +11,10 @@ use lib.Seq.{take-take, length-take-le}
 use Rattle.lists.specs.Keep.{bit}
 use Rattle.digits.specs.Digits.{number}
 use Rattle.index.specs.Fit.{between}
+use Rattle.index.specs.Form.{formOf, stagesAt}
 use Rattle.index.specs.File.{magic}
 use Rattle.index.specs.Step.{firstOf, when}
-use Rattle.index.specs.Read.{known, hasWorking, hasWidth, littleEndian, versionIn, dimIn, headerIn, headFault}
+use Rattle.index.specs.Read.{littleEndian, versionIn, formIn, dimIn, headerIn, headFault}
 use Rattle.listing.specs.Listing.{longRefusal}
 
 -- a number that lies within the first m bytes
@@ -30,14 +31,14 @@ faultOf short name version dim field ended width =
     firstOf
     (when short 14
     ∷ when (not (eqb name (littleEndian 4 magic))) 15
-    ∷ when (not (known version)) 16
-    ∷ when (ltb dim (cond (hasWorking version) field 0)) 17
+    ∷ when (not (formOf version .known)) 16
+    ∷ when (ltb dim (cond (formOf version .working) field 0)) 17
     ∷ when ended 14
-    ∷ when (not (between 4 6 (cond (hasWidth version) width 4))) 18
+    ∷ when (not (between 4 6 (cond (formOf version .width) width 4))) 18
     ∷ [])
 
 abbrev ends : (file : List ℕ) → Bool
-ends file = ltb (length file) (24 + bit (hasWidth (versionIn file)))
+ends file = ltb (length file) (stagesAt (formIn file))
 
 by-fields : (file : List ℕ) → headFault file
     ≡ faultOf (ltb (length file) 24) (littleEndian 4 file) (versionIn file) (dimIn file) (littleEndian 2 (drop 6 file)) (ends file) (littleEndian 1 (drop 24 file))
@@ -55,7 +56,7 @@ head-cut file m some more =
     let long : length part ≡ m = length-take-le m file more in
     let short : ltb (length part) 24 ≡ ltb (length file) 24 = le-ltb (length part) 24 (omega arith) ∙ sym (le-ltb (length file) 24 (omega arith)) in
     let ended : ends part ≡ ends file =
-    whole (length part) (hasWidth (versionIn part)) (omega arith) ∙ sym (whole (length file) (hasWidth (versionIn file)) (omega arith)) in
+    whole (length part) (formIn part .width) (omega arith) ∙ sym (whole (length file) (formIn file .width) (omega arith)) in
     let name = number-cut 4 0 m file (omega arith) in
     let version = number-cut 2 4 m file (omega arith) in
     let dim = number-cut 4 8 m file (omega arith) in

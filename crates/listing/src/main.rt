@@ -103,12 +103,12 @@ fn long_refusal(file: &[u8]) -> u8
     number
 }
 
-// The first scale of a slot as a half: as the file has it, so that a NaN stays as it stands. Version 1 has binary32 scales: rounded.
+// The first scale of a slot as a half: as the file has it, so that a NaN stays as it stands. A binary32 scale is rounded.
 fn half_of(file: &[u8], slot: u32) -> u16
     ensures { λ r. ⌜ r ≡ halfIn (now (file .entry)) slot ⌝ }
 {
     let scales = header::stages_in(file);
-    if header::version_in(file) == 1 {
+    if form::form_of(header::version_in(file)).scale == 4 {
         let pattern = little_endian::rd_u32(little_endian::after(scales, slot as usize * 4));
         return half::f32_to_f16_bits(pattern);
     }
@@ -118,12 +118,12 @@ fn half_of(file: &[u8], slot: u32) -> u16
 // ---- printing
 
 fn print_refusal(out: &mut [u8], number: u8) {
-    let end = print::put_decimal(out, 0, number as u64);
+    let end = numerals::put_decimal(out, 0, number as u64);
     print::print_line(out, end);
 }
 
 fn print_head(out: &mut [u8], version: u16, index: Index) {
-    let version_end = print::put_decimal(out, 0, version as u64);
+    let version_end = numerals::put_decimal(out, 0, version as u64);
     let dim_end = put_next(out, version_end, index.dim as u64);
     let working_end = put_next(out, dim_end, index.working_dim as u64);
     let width_end = put_next(out, working_end, index.bits as u64);
@@ -134,7 +134,7 @@ fn print_head(out: &mut [u8], version: u16, index: Index) {
 // A blank, and the number in decimal.
 fn put_next(out: &mut [u8], at: usize, n: u64) -> usize {
     let from = print::put_byte(out, at, b' ');
-    print::put_decimal(out, from, n)
+    numerals::put_decimal(out, from, n)
 }
 
 // Every slot of the file is live.
@@ -148,7 +148,7 @@ fn print_slots(out: &mut [u8], keys: &[u64], keyed: &[bool], file: &[u8]) {
 }
 
 fn print_slot(out: &mut [u8], slot: u32, keys: &[u64], keyed: &[bool], half: u16) {
-    let slot_end = print::put_decimal(out, 0, slot as u64);
+    let slot_end = numerals::put_decimal(out, 0, slot as u64);
     let key_at = print::put_byte(out, slot_end, b' ');
     let key_end = put_key(out, key_at, keys, keyed, slot as usize);
     let half_at = print::put_byte(out, key_end, b' ');
@@ -157,8 +157,8 @@ fn print_slot(out: &mut [u8], slot: u32, keys: &[u64], keyed: &[bool], half: u16
 }
 
 fn put_key(out: &mut [u8], at: usize, keys: &[u64], keyed: &[bool], slot: usize) -> usize {
-    if held::is_keyed(keyed, slot) {
-        return print::put_decimal(out, at, held::key_word(keys, slot));
+    if slot_keys::is_keyed(keyed, slot) {
+        return numerals::put_decimal(out, at, slot_keys::key_word(keys, slot));
     }
     print::put_byte(out, at, b'-')
 }

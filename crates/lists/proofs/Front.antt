@@ -3,6 +3,7 @@ use mathlib.Core.Path.{_≡_, refl, sym, ap, _∙_}
 use mathlib.Core.Bool.{Bool, true, false}
 use mathlib.Core.List.{List, [], _∷_, _++_, map, map-append, map-id}
 use Prim.Native.Nat.{ℕ, zero, suc, _+_, _-_, _≤_, _<_}
+use native.Mathlib.Nat.{sub-zero}
 use native.Mathlib.Omega.{arith}
 use native.Mathlib.Decide.{decLt}
 use lib.ListN.{length, getD, set, take, drop, length-append, List·getD-append, take-append-drop}
@@ -43,6 +44,14 @@ module _ {ℓ} {A : Type ℓ} where
   pub over-front : (n : ℕ) (xs : List A) → n ≤ length xs → over (take n xs) xs ≡ xs
   unfolding over
   over-front n xs h = rw (length-take-le n xs h) (take-append-drop n xs)
+
+  -- what was written at the front, read as a part, and as the part `&xs[0..n]`
+  pub take-over : (ys xs : List A) (m : ℕ) → m ≡ length ys → take m (over ys xs) ≡ ys
+  unfolding over
+  take-over ys xs m e = take-at ys (drop (length ys) xs) m (sym e)
+
+  pub part-tab : (f : ℕ → A) (n : ℕ) (xs : List A) → take (n - 0) (over (tab f n) xs) ≡ tab f n
+  part-tab f n xs = take-over (tab f n) xs (n - 0) (sub-zero n ∙ sym (length-tab f n))
 
   -- ---- some places
 

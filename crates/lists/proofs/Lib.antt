@@ -3,3 +3,5 @@ pub mod Laws
 pub mod Entries
 pub mod Keep
 pub mod Front
+pub mod Writing
+pub mod Tests

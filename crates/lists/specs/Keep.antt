@@ -1,5 +1,5 @@
 -- Lists of any type: what passes a test, how many do, and what holds of each entry.
-use mathlib.Core.Bool.{Bool, true, false, cond}
+use mathlib.Core.Bool.{Bool, true, false, cond, _&&_, _||_}
 use mathlib.Core.List.{List, [], _∷_}
 use Prim.Native.Nat.{ℕ, suc, _+_, _-_}
 use lib.ListN.{length, drop}
@@ -7,6 +7,18 @@ use lib.ListN.{length, drop}
 abbrev pub bit : Bool → ℕ
 bit true = 1
 bit false = 0
+
+unfoldable pub every : List Bool → Bool
+every [] = true
+every (t ∷ ts) = t && every ts
+
+unfoldable pub all : {A : Type 0} → (A → Bool) → List A → Bool
+all p [] = true
+all p (x ∷ xs) = p x && all p xs
+
+unfoldable pub any : {A : Type 0} → (A → Bool) → List A → Bool
+any p [] = false
+any p (x ∷ xs) = p x || any p xs
 
 module _ {X : Type 0} where
   -- those that pass the test, in their order

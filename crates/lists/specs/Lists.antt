@@ -21,3 +21,16 @@ over ys xs = ys ++ drop (length ys) xs
 -- ys over the places of xs from i on: the others keep their contents
 unfoldable pub splice {ℓ} : {A : Type ℓ} → (i : ℕ) → (ys xs : List A) → List A
 splice i ys xs = take i xs ++ ys ++ drop (i + length ys) xs
+
+-- 0, 1, .., n - 1
+abbrev pub below : ℕ → List ℕ
+below n = tab (λ i. i) n
+
+-- the lists one after the other
+unfoldable pub joined : List (List ℕ) → List ℕ
+joined [] = []
+joined (b ∷ bs) = b ++ joined bs
+
+abbrev pub total : List ℕ → ℕ
+total [] = 0
+total (n ∷ ns) = n + total ns

@@ -9,7 +9,8 @@ use lib.Dec.{T, eqb→eq}
 use lib.ListN.{length, drop, getD, length-drop}
 use lib.Seq.{getD-drop}
 use lib.Ieee.{Float, nan, lt}
-use Rattle.lloyd.specs.Sound.{allBelow, conditions, every, sound, Rises, Sound}
+use Rattle.lloyd.specs.Sound.{allBelow, conditions, sound, Rises, SoundTables}
+use Rattle.lists.specs.Keep.{every}
 
 pub both : (a b : Bool) → T (a && b) → T a × T b
 both true b t = (tt, t)
@@ -39,7 +40,7 @@ below-next : (xs ys : List Float) → T (allBelow xs (drop 1 ys)) → (i : ℕ) 
 below-next xs ys t i h k =
     rw (add-comm i 1, ← getD-drop 1 ys i nan) (below-at xs (drop 1 ys) t i h (rw length-drop (omega arith)))
 
-pub sound-at : (boundaries centroids : List Float) → T (sound boundaries centroids) → Sound boundaries centroids
+pub sound-at : (boundaries centroids : List Float) → T (sound boundaries centroids) → SoundTables boundaries centroids
 unfolding sound conditions Rises
 sound-at bs cs t =
     let h = each (conditions bs cs) t in

@@ -10,8 +10,7 @@ use lib.Dec.{T, eqb, lit≤}
 use lib.ListN.{length}
 use borrow.Author.Tests.{ne-eqb}
 use lib.Ieee.{Float, lt}
-use Rattle.lloyd.specs.Tables.{byWidth, levelsOf, centroidsOf, boundariesOf, zeros64, padded}
-use Rattle.lloyd.specs.Tables.{centroids4, centroids5, centroids6, boundaries4, boundaries5, boundaries6}
+use Rattle.lloyd.specs.Tables.{byWidth, levelsOf, centroidsOf, boundariesOf, zeros64, inPlaces, centroids4, centroids5, centroids6, boundaries4, boundaries5, boundaries6}
 use Rattle.lloyd.specs.Sound.{sound}
 
 -- at a width that is none of the three
@@ -24,9 +23,9 @@ module _ (bits : ℕ) (not-4 : bits ≢ 4) (not-5 : bits ≢ 5) (not-6 : bits �
   unfolding levelsOf
   no-levels = by-other 16 32 64 0
 
-  pub no-table : (four five six : List Float) → padded (byWidth four five six [] bits) ≡ zeros64
-  unfolding padded
-  no-table four five six = ap padded (by-other four five six [])
+  pub no-table : (four five six : List Float) → inPlaces (byWidth four five six [] bits) ≡ zeros64
+  unfolding inPlaces
+  no-table four five six = ap inPlaces (by-other four five six [])
 
 -- a function of what stands for a width
 by-width-map : {A B : Type 0} (f : A → B) (four five six other : A) (bits : ℕ)

@@ -6,6 +6,7 @@ use mathlib.Core.List.{List, [], _∷_}
 use lib.Dec.{eqb}
 use lib.ListN.{length, drop, getD}
 use lib.Ieee.{Float, nan, lt}
+use Rattle.lists.specs.Keep.{every}
 
 -- ---- the rule as a test
 
@@ -26,10 +27,6 @@ conditions boundaries centroids =
     ∷ allBelow boundaries (drop 1 centroids)
     ∷ []
 
-unfoldable pub every : List Bool → Bool
-every [] = true
-every (t ∷ ts) = t && every ts
-
 unfoldable pub sound : List Float → List Float → Bool
 unfolding conditions every
 sound boundaries centroids = every (conditions boundaries centroids)
@@ -40,7 +37,7 @@ sound boundaries centroids = every (conditions boundaries centroids)
 unfoldable pub Rises : List Float → Type 0
 Rises table = (i : ℕ) → i + 1 < length table → lt (getD table i nan) (getD table (i + 1) nan) ≡ true
 
-pub record Sound (boundaries centroids : List Float) : Type 0 where
+pub record SoundTables (boundaries centroids : List Float) : Type 0 where
   pub count : length centroids ≡ length boundaries + 1
   pub boundaries-rise : Rises boundaries
   pub centroids-rise : Rises centroids

@@ -94,6 +94,6 @@ unfoldable pub zeros64 : List Float
 zeros64 = replicate 64 +0
 
 -- the table in the first places, and +0 in the places past it
-unfoldable pub padded : List Float → List Float
+unfoldable pub inPlaces : List Float → List Float
 unfolding over zeros64
-padded table = over table zeros64
+inPlaces table = over table zeros64

@@ -11,7 +11,7 @@ ghost use mathlib.Core.Path.{_≡_};
 ghost use mathlib.Core.List.{[]};
 ghost use Prim.Native.Nat.{_≤_};
 ghost use lib.ListN.{length};
-ghost use Rattle.lloyd.specs.Tables.{byWidth, levelsOf, centroidsOf, boundariesOf, zeros64, padded};
+ghost use Rattle.lloyd.specs.Tables.{byWidth, levelsOf, centroidsOf, boundariesOf, zeros64, inPlaces};
 
 // How many levels a width has. Any other width than these three has none.
 pub fn levels(bits: u8) -> usize
@@ -35,7 +35,7 @@ fn zeros() -> [f32; 64]
 // A table in the first of 64 places, and +0 in the places past it.
 fn in_64_places(table: &[f32]) -> [f32; 64]
     requires { ⌜ length (now table) ≤ 64 ⌝ }
-    ensures { λ r. ⌜ r ≡ padded (now (table .entry)) ⌝ }
+    ensures { λ r. ⌜ r ≡ inPlaces (now (table .entry)) ⌝ }
 {
     let mut places = zeros();
     let mut i = 0;
@@ -51,7 +51,7 @@ fn for_width(bits: u8, four: &[f32], five: &[f32], six: &[f32]) -> [f32; 64]
     requires { ⌜ length (now four) ≤ 64 ⌝ }
     requires { ⌜ length (now five) ≤ 64 ⌝ }
     requires { ⌜ length (now six) ≤ 64 ⌝ }
-    ensures { λ r. ⌜ r ≡ padded (byWidth (now (four .entry)) (now (five .entry)) (now (six .entry)) [] bits) ⌝ }
+    ensures { λ r. ⌜ r ≡ inPlaces (byWidth (now (four .entry)) (now (five .entry)) (now (six .entry)) [] bits) ⌝ }
 {
     match bits {
         4 => in_64_places(four),
@@ -63,14 +63,14 @@ fn for_width(bits: u8, four: &[f32], five: &[f32], six: &[f32]) -> [f32; 64]
 
 // The centroids of a width. They come by value, since a constant table is built anew at each use; a caller lends `&c[0..levels(bits)]`.
 pub fn centroids(bits: u8) -> [f32; 64]
-    ensures { λ r. ⌜ r ≡ padded (centroidsOf bits) ⌝ }
+    ensures { λ r. ⌜ r ≡ inPlaces (centroidsOf bits) ⌝ }
 {
     for_width(bits, &CENTROIDS_4BIT, &CENTROIDS_5BIT, &CENTROIDS_6BIT)
 }
 
 // The boundaries of a width, one fewer than its centroids.
 pub fn boundaries(bits: u8) -> [f32; 64]
-    ensures { λ r. ⌜ r ≡ padded (boundariesOf bits) ⌝ }
+    ensures { λ r. ⌜ r ≡ inPlaces (boundariesOf bits) ⌝ }
 {
     for_width(bits, &BOUNDARIES_4BIT, &BOUNDARIES_5BIT, &BOUNDARIES_6BIT)
 }

@@ -1,4 +1,2 @@
--- Laws of making, of a width call and of enabling the cascade.
+-- Laws of making.
 mod Making
-pub mod SameSlots
-mod Setting

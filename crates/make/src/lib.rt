@@ -1,11 +1,8 @@
-// Making an index, setting its code width, enabling its cascade. None of these calls writes a lent array.
+// Making an index. None of these calls writes a lent array.
 ghost use mathlib.Core.Path.{_≡_};
 ghost use mathlib.Core.Bool.{true, false, cond, _&&_};
 ghost use Rattle.index.specs.Arrays.{lent};
 ghost use Rattle.index.specs.Fit as Fit;
-ghost use Rattle.index.specs.Step.{setBits, enable};
-ghost use Rattle.index.specs.Call.{call};
-ghost use Rattle.index.specs.Answers.{made};
 ghost use Rattle.index.specs.Make as Make;
 use index::Index;
 use index::Made;
@@ -16,8 +13,6 @@ fn between(low: usize, high: usize, x: usize) -> bool
 {
     (low <= x) & (x <= high)
 }
-
-// ---- making
 
 // Refusal 4: whether dim is 1 to 4,096 and working_dim 1 to dim.
 fn dims_fit(dim: usize, working_dim: usize) -> bool
@@ -52,7 +47,7 @@ fn make(
     scales2: &[u32],
 ) -> Made
     ensures { λ r. let a = lent (codes .entry) (scales .entry) (keys .entry) (keyed .entry) (held .entry) (alive .entry) (codes2 .entry) (scales2 .entry) in
-        ⌜ r ≡ Make.make (Make.newHeader dim «working_dim» seed residual) a ⌝ }
+        ⌜ Make.begun r a ≡ Make.make (Make.newHeader dim «working_dim» seed residual) a ⌝ }
 {
     let bits = default_bits(residual);
     let index = Index {
@@ -99,7 +94,7 @@ pub fn new(
     scales2: &[u32],
 ) -> Made
     ensures { λ r. let a = lent (codes .entry) (scales .entry) (keys .entry) (keyed .entry) (held .entry) (alive .entry) (codes2 .entry) (scales2 .entry) in
-        ⌜ r ≡ Make.make (Make.newHeader dim dim seed false) a ⌝ }
+        ⌜ Make.begun r a ≡ Make.make (Make.newHeader dim dim seed false) a ⌝ }
 {
     make(
         dim,
@@ -132,7 +127,7 @@ pub fn with_working_dim(
     scales2: &[u32],
 ) -> Made
     ensures { λ r. let a = lent (codes .entry) (scales .entry) (keys .entry) (keyed .entry) (held .entry) (alive .entry) (codes2 .entry) (scales2 .entry) in
-        ⌜ r ≡ Make.make (Make.newHeader dim «working_dim» seed false) a ⌝ }
+        ⌜ Make.begun r a ≡ Make.make (Make.newHeader dim «working_dim» seed false) a ⌝ }
 {
     make(
         dim,
@@ -164,7 +159,7 @@ pub fn with_residual(
     scales2: &[u32],
 ) -> Made
     ensures { λ r. let a = lent (codes .entry) (scales .entry) (keys .entry) (keyed .entry) (held .entry) (alive .entry) (codes2 .entry) (scales2 .entry) in
-        ⌜ r ≡ Make.make (Make.newHeader dim dim seed true) a ⌝ }
+        ⌜ Make.begun r a ≡ Make.make (Make.newHeader dim dim seed true) a ⌝ }
 {
     make(
         dim,
@@ -180,87 +175,4 @@ pub fn with_residual(
         codes2,
         scales2,
     )
-}
-
-// ---- a made index
-
-// Sets the width of an index of no slots: 13, 5, 6, 7. The cascade ends.
-pub fn set_bits(
-    index: Index,
-    codes: &[u8],
-    scales: &[u32],
-    keys: &[u64],
-    keyed: &[bool],
-    held: &[u32],
-    alive: &[u8],
-    codes2: &[u8],
-    scales2: &[u32],
-    bits: u8,
-) -> Made
-    ensures { λ r. let a = lent (codes .entry) (scales .entry) (keys .entry) (keyed .entry) (held .entry) (alive .entry) (codes2 .entry) (scales2 .entry) in
-        ⌜ made index r a ≡ call index a (setBits bits) ⌝ }
-{
-    if !fit::fits(
-        index,
-        codes,
-        scales,
-        keys,
-        keyed,
-        held,
-        alive,
-        codes2,
-        scales2,
-    ) {
-        return Made::Refused(13);
-    }
-    let n = index.n;
-    if !between(4, 6, bits as usize) {
-        return Made::Refused(5);
-    }
-    if 0 < n {
-        return Made::Refused(6);
-    }
-    if index.residual & (bits != 4) {
-        return Made::Refused(7);
-    }
-    let mut set = index;
-    set.bits = bits;
-    set.cascade = false;
-    Made::Index(set)
-}
-
-// Lets the index answer cascade searches: 13, 11.
-pub fn enable_cascade(
-    index: Index,
-    codes: &[u8],
-    scales: &[u32],
-    keys: &[u64],
-    keyed: &[bool],
-    held: &[u32],
-    alive: &[u8],
-    codes2: &[u8],
-    scales2: &[u32],
-) -> Made
-    ensures { λ r. let a = lent (codes .entry) (scales .entry) (keys .entry) (keyed .entry) (held .entry) (alive .entry) (codes2 .entry) (scales2 .entry) in
-        ⌜ made index r a ≡ call index a enable ⌝ }
-{
-    if !fit::fits(
-        index,
-        codes,
-        scales,
-        keys,
-        keyed,
-        held,
-        alive,
-        codes2,
-        scales2,
-    ) {
-        return Made::Refused(13);
-    }
-    if index.bits != 4 {
-        return Made::Refused(11);
-    }
-    let mut enabled = index;
-    enabled.cascade = true;
-    Made::Index(enabled)
 }

@@ -1,13 +1,10 @@
-// Making an index, setting its width and enabling its cascade, for C and Rust. `fields` are the words of the record (crate words): the calls write them, and no other lent slice.
+// Making an index, for C and Rust. `fields` are the words of the record (crate words): the calls write them, and no other lent slice.
 ghost use mathlib.Core.Path.{_≡_};
 ghost use mathlib.Core.Bool.{true, false};
 ghost use mathlib.Core.List.{[]};
 ghost use Rattle.index.specs.Arrays.{lent};
-ghost use Rattle.index.specs.Step.{setBits, enable};
-ghost use Rattle.index.specs.Make.{newHeader, make};
-ghost use Rattle.words.specs.Put.{put, putMade};
-ghost use Rattle.words.specs.Exports.{left, changes};
-use words::Record;
+ghost use Rattle.index.specs.Make.{newHeader};
+ghost use Rattle.words.specs.Exports.{left, makes};
 
 #[no_mangle]
 pub extern "C" fn vecq_new(
@@ -24,7 +21,7 @@ pub extern "C" fn vecq_new(
     seed: u64,
 ) -> u8
     ensures { λ r. let a = lent (codes .entry) (scales .entry) (keys .entry) (keyed .entry) (held .entry) (alive .entry) (codes2 .entry) (scales2 .entry) in
-        ⌜ put r (now (fields .exit)) ≡ putMade (make (newHeader dim dim seed false) a) (now (fields .entry)) ⌝ }
+        ⌜ left r (now (fields .exit)) [] a ≡ makes (newHeader dim dim seed false) (now (fields .entry)) a ⌝ }
 {
     let made_new = make::new(
         dim,
@@ -38,7 +35,7 @@ pub extern "C" fn vecq_new(
         codes2,
         scales2,
     );
-    words::put_made(made_new, fields)
+    answer_words::put_made(made_new, fields)
 }
 
 #[no_mangle]
@@ -57,7 +54,7 @@ pub extern "C" fn vecq_with_working_dim(
     seed: u64,
 ) -> u8
     ensures { λ r. let a = lent (codes .entry) (scales .entry) (keys .entry) (keyed .entry) (held .entry) (alive .entry) (codes2 .entry) (scales2 .entry) in
-        ⌜ put r (now (fields .exit)) ≡ putMade (make (newHeader dim «working_dim» seed false) a) (now (fields .entry)) ⌝ }
+        ⌜ left r (now (fields .exit)) [] a ≡ makes (newHeader dim «working_dim» seed false) (now (fields .entry)) a ⌝ }
 {
     let made_working = make::with_working_dim(
         dim,
@@ -72,7 +69,7 @@ pub extern "C" fn vecq_with_working_dim(
         codes2,
         scales2,
     );
-    words::put_made(made_working, fields)
+    answer_words::put_made(made_working, fields)
 }
 
 #[no_mangle]
@@ -90,7 +87,7 @@ pub extern "C" fn vecq_with_residual(
     seed: u64,
 ) -> u8
     ensures { λ r. let a = lent (codes .entry) (scales .entry) (keys .entry) (keyed .entry) (held .entry) (alive .entry) (codes2 .entry) (scales2 .entry) in
-        ⌜ put r (now (fields .exit)) ≡ putMade (make (newHeader dim dim seed true) a) (now (fields .entry)) ⌝ }
+        ⌜ left r (now (fields .exit)) [] a ≡ makes (newHeader dim dim seed true) (now (fields .entry)) a ⌝ }
 {
     let made_residual = make::with_residual(
         dim,
@@ -104,71 +101,5 @@ pub extern "C" fn vecq_with_residual(
         codes2,
         scales2,
     );
-    words::put_made(made_residual, fields)
-}
-
-#[no_mangle]
-pub extern "C" fn vecq_set_bits(
-    fields: &mut [u64],
-    codes: &[u8],
-    scales: &[u32],
-    keys: &[u64],
-    keyed: &[bool],
-    held: &[u32],
-    alive: &[u8],
-    codes2: &[u8],
-    scales2: &[u32],
-    bits: u8,
-) -> u8
-    ensures { λ r. let a = lent (codes .entry) (scales .entry) (keys .entry) (keyed .entry) (held .entry) (alive .entry) (codes2 .entry) (scales2 .entry) in
-        ⌜ left r (now (fields .exit)) [] a ≡ changes (setBits bits) (now (fields .entry)) a ⌝ }
-{
-    let Record::Fields(index) = words::record_in(fields) else {
-        return 13;
-    };
-    let width_set = make::set_bits(
-        index,
-        codes,
-        scales,
-        keys,
-        keyed,
-        held,
-        alive,
-        codes2,
-        scales2,
-        bits,
-    );
-    words::put_made(width_set, fields)
-}
-
-#[no_mangle]
-pub extern "C" fn vecq_enable_cascade(
-    fields: &mut [u64],
-    codes: &[u8],
-    scales: &[u32],
-    keys: &[u64],
-    keyed: &[bool],
-    held: &[u32],
-    alive: &[u8],
-    codes2: &[u8],
-    scales2: &[u32],
-) -> u8
-    ensures { λ r. let a = lent (codes .entry) (scales .entry) (keys .entry) (keyed .entry) (held .entry) (alive .entry) (codes2 .entry) (scales2 .entry) in
-        ⌜ left r (now (fields .exit)) [] a ≡ changes enable (now (fields .entry)) a ⌝ }
-{
-    let Record::Fields(index) = words::record_in(fields) else {
-        return 13;
-    };
-    let cascade_enabled = make::enable_cascade(
-        index,
-        codes,
-        scales,
-        keys,
-        keyed,
-        held,
-        alive,
-        codes2,
-        scales2,
-    );
-    words::put_made(cascade_enabled, fields)
+    answer_words::put_made(made_residual, fields)
 }

@@ -12,15 +12,14 @@ use lib.Dec.{ltb, eqb}
 use lib.ListN.{length, getD, set}
 use mir.Val.{boolByte}
 use borrow.Author.Tests.{lt-ltb, le-ltb, eq-eqb, ne-eqb, ltb-true, ltb-false}
-use Rattle.lists.specs.Lists.{tab}
+use Rattle.lists.specs.Lists.{tab, below}
 use Rattle.lists.specs.Keep.{bit, count}
 use Rattle.lists.proofs.Laws.{length-tab, getD-tab, tab-ext}
 use Rattle.lists.proofs.Entries.{set-tab}
 use Rattle.lists.proofs.Front.{each-tab}
 use Rattle.lists.proofs.Keep.{count-append, count-length, count-implied, count-same, count-share}
-use Rattle.held.specs.Held.{below}
-use Rattle.held_order.proofs.Writing.{Written, written-more}
-use Rattle.distances.specs.Distances.{past}
+use Rattle.lists.proofs.Writing.{Written, written-more}
+use Rattle.nearest.specs.Distances.{past}
 use Rattle.nearest.specs.declared.Limit.{Limit}
 use Rattle.nearest.specs.Limit.{under, level, Reached, Unreached, Limits, isMarked}
 

@@ -7,8 +7,8 @@ use Prim.Native.Nat.{ℕ, _+_, _≤_, _<_}
 use lib.ListN.{length, getD}
 use lib.Dec.{ltb, eqb}
 use Rattle.lists.specs.Keep.{count}
-use Rattle.held.specs.Held.{below}
-use Rattle.distances.specs.Distances.{past}
+use Rattle.lists.specs.Lists.{below}
+use Rattle.nearest.specs.Distances.{past}
 use Rattle.nearest.specs.declared.Limit.{Limit}
 
 -- how many of the first n slots have a distance below d

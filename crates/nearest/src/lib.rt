@@ -2,6 +2,8 @@
 //
 // The limit, the distance of the last candidate, is found by counting how many slots have each distance. The candidates are the slots below
 // it, and the first at it that make them r.
+mod distances;
+
 ghost use mathlib.Core.Path.{_≡_};
 ghost use mathlib.Core.Bool.{cond, _&&_, _||_};
 ghost use Prim.Native.Nat.{_≤_, _<_};
@@ -10,8 +12,9 @@ ghost use lib.ListN.{length};
 ghost use Rattle.lists.specs.Lists.{tab, over};
 ghost use Rattle.lists.specs.Keep.{bit, Each};
 ghost use Rattle.index.specs.State.{headerOf};
-ghost use Rattle.distances.specs.Distances.{distanceAt};
-ghost use Rattle.nearest.specs.Nearest.{nearMarks, ready};
+ghost use Rattle.index.specs.Step.{queryOf};
+ghost use Rattle.nearest.specs.Distances.{distanceAt};
+ghost use Rattle.nearest.specs.Nearest.{nearMarks, cascadable};
 ghost use Rattle.nearest.specs.Limit.{level, Limits, isMarked};
 use index::Index;
 
@@ -40,7 +43,9 @@ fn clear(counts: &mut [u32])
 
 // Counts how many slots have each distance, from counts of 0 on.
 fn tally(distances: &[u32], counts: &mut [u32])
-    requires { ⌜ (length (now distances) ≤ 65536) × (Each (λ d. d < length (now counts)) (now distances)) × (now counts ≡ tab (λ _. 0) (length (now counts))) ⌝ }
+    requires { ⌜
+        (length (now distances) ≤ 65536) × (Each (λ d. d < length (now counts)) (now distances))
+        × (now counts ≡ tab (λ _. 0) (length (now counts))) ⌝ }
     ensures { λ _. ⌜ now (counts .exit) ≡ tab (λ d. level (now (distances .entry)) d (length (now (distances .entry)))) (length (now (counts .entry))) ⌝ }
 {
     let mut i = 0;
@@ -116,12 +121,18 @@ fn places() -> [u32; 65536] {
 }
 
 fn is_ready(slots: usize, marks: usize, width: u8, working_dim: usize, entries: usize) -> bool
-    ensures { λ r. ⌜ r ≡ ready slots marks width «working_dim» entries ⌝ }
+    ensures { λ r. ⌜ r ≡ cascadable slots marks width «working_dim» entries ⌝ }
 {
     if marks < slots {
         return false;
     }
-    distances::is_measurable(slots, 65536, width, working_dim, entries)
+    if 65536 < slots {
+        return false;
+    }
+    if width != 4 {
+        return false;
+    }
+    unit::is_rotatable(working_dim, entries, 4096)
 }
 
 // Marks the r nearest live slots: 1 for each, 0 for the others in use. Nothing is written where the record is out of range, the query can't be
@@ -135,8 +146,9 @@ pub fn mark_nearest(
     marks: &mut [u8],
 )
     ensures { λ _. ⌜
-        now (marks .exit) ≡ cond (ready (index .n) (length (now (marks .entry))) (index .bits) (index .«working_dim») (length (now (query .entry))))
-        (over (nearMarks (distanceAt (headerOf index) (now (codes .entry)) (now (query .entry))) (now (alive .entry)) (index .n) r) (now (marks .entry)))
+        now (marks .exit) ≡ cond (cascadable (index .n) (length (now (marks .entry))) (index .bits) (index .«working_dim») (length (now (query .entry))))
+        (over (nearMarks (distanceAt (headerOf index) (now (codes .entry)) (queryOf (now (query .entry)))) (now (alive .entry)) (index .n) r)
+        (now (marks .entry)))
         (now (marks .entry)) ⌝ }
 {
     if is_ready(

@@ -5,7 +5,7 @@ use Prim.Native.Nat.{ℕ, suc, _<_}
 use lib.ListN.{length, take, getD}
 use lib.Seq.{take-suc}
 use lib.Ieee.{Float}
-use Rattle.pattern.specs.Binary32.{_⊕_, +0, sumFrom, sum}
+use Rattle.pattern.specs.Binary32.{_⊕_, +0, sumFrom, sumOf}
 
 pub sum-snoc : (acc : Float) (xs : List Float) (x : Float) → sumFrom acc (xs ++ (x ∷ [])) ≡ sumFrom acc xs ⊕ x
 unfolding sumFrom
@@ -14,7 +14,7 @@ sum-snoc acc (y ∷ xs) x = sum-snoc (acc ⊕ y) xs x
 
 -- the sum over the first i + 1 entries, each as f gives it, from that over the first i
 pub sum-next : {A : Type 0} (f : A → Float) (xs : List A) (i : ℕ) (d : A) → i < length xs →
-    sum (map f (take (suc i) xs)) ≡ sum (map f (take i xs)) ⊕ f (getD xs i d)
+    sumOf (map f (take (suc i) xs)) ≡ sumOf (map f (take i xs)) ⊕ f (getD xs i d)
 sum-next f xs i d h =
-    ap (λ ys. sum (map f ys)) (take-suc xs i d h)
+    ap (λ ys. sumOf (map f ys)) (take-suc xs i d h)
     ∙ rw (map-append f (take i xs) (getD xs i d ∷ [])) (sum-snoc +0 (map f (take i xs)) (f (getD xs i d)))

@@ -25,8 +25,8 @@ abbrev pub +0 : Float
 +0 = fin false 0 (pos 0)
 
 -- a whole number, exact up to 2 ^ 24
-abbrev pub whole : ℕ → Float
-whole n = ofInt binary32 (pos n)
+abbrev pub ofNat : ℕ → Float
+ofNat n = ofInt binary32 (pos n)
 
 -- the sum from acc on, in the list's order
 unfoldable pub sumFrom : Float → List Float → Float
@@ -34,12 +34,12 @@ sumFrom acc [] = acc
 sumFrom acc (x ∷ xs) = sumFrom (acc ⊕ x) xs
 
 -- the sum in index order, from +0
-abbrev pub sum : List Float → Float
-sum xs = sumFrom +0 xs
+abbrev pub sumOf : List Float → Float
+sumOf xs = sumFrom +0 xs
 
 -- 01, store.rs: "Squares are summed in index order"; "`powi(2)` is one product"
 abbrev pub sumSquares : List Float → Float
-sumSquares xs = sum (map (λ x. x ⊗ x) xs)
+sumSquares xs = sumOf (map (λ x. x ⊗ x) xs)
 
 -- the larger of the two, and y where x is a NaN, as Rust's `max`
 unfoldable pub larger : Float → Float → Float

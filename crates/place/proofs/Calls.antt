@@ -7,19 +7,18 @@ use native.Mathlib.Numerals.{add-one}
 use native.Mathlib.Omega.{arith}
 use borrow.Author.Tests.{le-leb, lt-leb, leb-false}
 use lib.Dec.{leb, eqb}
-use lib.ListN.{length, set}
-use lib.Ieee.{Float}
+use lib.ListN.{set}
 use Rattle.lists.proofs.Laws.{length-tab}
 use Rattle.lists.proofs.Keep.{count-length}
 use Rattle.codes.specs.Writing.{atWidth}
-use Rattle.unit.proofs.Vectors.{has-length}
+use Rattle.vectors.proofs.Faults.{has-length}
 use Rattle.encode.specs.Coded.{fault, noSpare}
 use Rattle.index.specs.declared.Index.{Index}
 use Rattle.index.specs.Arrays.{Arrays}
-use Rattle.index.specs.State.{Slot, headerOf, capacity, markOf, aliveOf, hasKey, keyWord, position, slotAt, putSlot}
+use Rattle.index.specs.State.{Slot, headerOf, capacity, markOf, aliveOf, hasKey, keyWord, position, slotAt, putSlot, newSlot}
 use Rattle.index.specs.Fit.{rowAt, rows, fit}
 use Rattle.index.specs.Codec.{encoded}
-use Rattle.index.specs.Step.{firstOf, when, refused, slot}
+use Rattle.index.specs.Step.{Item, firstOf, when, refused, slot}
 use Rattle.index.specs.Call.{Result}
 use Rattle.index.specs.Answers.{result}
 use Rattle.index.proofs.Overlay.{roomy}
@@ -30,13 +29,13 @@ use Rattle.place.proofs.Codes.{within}
 
 -- ---- the refusal, test by test
 
-module _ (x : Index) (a : Arrays) (i room full : ℕ) (v : List Float) where
+module _ (x : Index) (a : Arrays) (i room full : ℕ) (v : Item) where
   pub refuse-misfit : fit x a ≡ false → 13 ≡ refusal x a i room full v
   unfolding refusal firstOf
   refuse-misfit e = rw e
 
   module _ (e : fit x a ≡ true) where
-    pub refuse-fault : (f : ℕ) → f ≡ fault (headerOf x) v → (f ≡ 0 → ⊥) → f ≡ refusal x a i room full v
+    pub refuse-fault : (f : ℕ) → f ≡ fault (headerOf x) (v .vector) → (f ≡ 0 → ⊥) → f ≡ refusal x a i room full v
     unfolding refusal firstOf
     refuse-fault f is some = rw (e, sym is) (go f some)
       where
@@ -44,7 +43,7 @@ module _ (x : Index) (a : Arrays) (i room full : ℕ) (v : List Float) where
         go zero s = absurd (s refl)
         go (suc n) s = refl
 
-    module _ (sound : fault (headerOf x) v ≡ 0) where
+    module _ (sound : fault (headerOf x) (v .vector) ≡ 0) where
       pub refuse-full : room ≤ i → full ≡ refusal x a i room full v
       unfolding refusal firstOf
       refuse-full l = rw (e, sound, le-leb room i l) (go full)
@@ -59,22 +58,22 @@ module _ (x : Index) (a : Arrays) (i room full : ℕ) (v : List Float) where
 
 -- ---- no refusal
 
-pub record Accepted (x : Index) (a : Arrays) (i room : ℕ) (v : List Float) : Type 0 where
+pub record Accepted (x : Index) (a : Arrays) (i room : ℕ) (v : Item) : Type 0 where
   pub fits : fit x a ≡ true
-  pub vector : fault (headerOf x) v ≡ 0
+  pub vector : fault (headerOf x) (v .vector) ≡ 0
   pub below : i < room
 
-pub accepted : (x : Index) (a : Arrays) (i room m : ℕ) (v : List Float) → refusal x a i room (suc m) v ≡ 0 → Accepted x a i room v
+pub accepted : (x : Index) (a : Arrays) (i room m : ℕ) (v : Item) → refusal x a i room (suc m) v ≡ 0 → Accepted x a i room v
 unfolding refusal firstOf
-accepted x a i room m v r = go (fit x a) refl (fault (headerOf x) v) refl (leb room i) refl r
+accepted x a i room m v r = go (fit x a) refl (fault (headerOf x) (v .vector)) refl (leb room i) refl r
   where
-    go : (b : Bool) → fit x a ≡ b → (n : ℕ) → fault (headerOf x) v ≡ n → (t : Bool) → leb room i ≡ t → firstOf (when (not b) 13 ∷ n ∷ when t (suc m) ∷ []) ≡ 0 → Accepted x a i room v
+    go : (b : Bool) → fit x a ≡ b → (n : ℕ) → fault (headerOf x) (v .vector) ≡ n → (t : Bool) → leb room i ≡ t → firstOf (when (not b) 13 ∷ n ∷ when t (suc m) ∷ []) ≡ 0 → Accepted x a i room v
     go false f n g t k q = absurd (let z : _≡_ {A = ℕ} 13 0 = q in omega arith)
     go true f (suc n) g t k q = absurd (let z : suc n ≡ 0 = q in omega arith)
     go true f zero g true k q = absurd (let z : suc m ≡ 0 = q in omega arith)
     go true f zero g false k q = record { fits = f; vector = g; below = leb-false room i k }
 
-module _ (x : Index) (a : Arrays) (i room : ℕ) (v : List Float) (ok : Accepted x a i room v) (space : room ≤ capacity (headerOf x) a) where
+module _ (x : Index) (a : Arrays) (i room : ℕ) (v : Item) (ok : Accepted x a i room v) (space : room ≤ capacity (headerOf x) a) where
   pub slot-room : suc i ≤ capacity (headerOf x) a
   slot-room = omega (arith, ok .below)
 
@@ -84,7 +83,7 @@ module _ (x : Index) (a : Arrays) (i room : ℕ) (v : List Float) (ok : Accepted
       let r = roomy (suc i) (headerOf x) a slot-room in
       record {
         header = f .header;
-        entries = omega (arith, has-length (x .dim) (x .«working_dim») v (ok .vector), within 1 (x .dim) (x .«working_dim») (f .header .working) .1);
+        entries = omega (arith, has-length (x .dim) (x .«working_dim») (v .vector) (ok .vector), within 1 (x .dim) (x .«working_dim») (f .header .«working_dim») .1);
         codes = r .codes;
         scales = r .scales;
         codes2 = r .codes2;
@@ -108,10 +107,10 @@ parts : (k : ℕ) (on : Bool) (p : ℕ) → Parts k on p
 parts k true p = record { word = refl; keyed = refl; held = refl; alive = refl }
 parts k false p = record { word = refl; keyed = refl; held = refl; alive = refl }
 
-module _ (x : Index) (a : Arrays) (k : ℕ) (on : Bool) (p : ℕ) (v : List Float) (room number : ℕ)
+module _ (x : Index) (a : Arrays) (k : ℕ) (on : Bool) (p : ℕ) (v : Item) (room number : ℕ)
     (r : room ≡ atWidth (x .bits) (capacity (headerOf x) a)) (is : number ≡ refusal x a (x .n) room 8 v) where
   abbrev new : Slot
-  new = record { mark = markOf 1 on k p; code = encoded (headerOf x) noSpare v }
+  new = newSlot (markOf 1 on k p) (encoded (headerOf x) noSpare v)
 
   abbrev appended : Result
   appended = result (afterAdd x (suc (x .n)) (suc (x .live))) (putSlot (headerOf x) a (x .n) new) (slot (x .n))
@@ -122,7 +121,7 @@ module _ (x : Index) (a : Arrays) (k : ℕ) (on : Bool) (p : ℕ) (v : List Floa
     where
       go : (b : Bool) → fit x a ≡ b → refusal x a (x .n) room 8 v ≡ refusal x a (x .n) (capacity (headerOf x) a) 8 v
       go true e =
-          let w = within 4 6 (x .bits) (fitting x a e .header .width) in
+          let w = within 4 6 (x .bits) (fitting x a e .header .bits) in
           ap (λ (m : ℕ). refusal x a (x .n) m 8 v) (r ∙ in-width (x .bits) (capacity (headerOf x) a) (w .0) (w .1))
       go false e = sym (refuse-misfit x a (x .n) room 8 v e) ∙ refuse-misfit x a (x .n) (capacity (headerOf x) a) 8 v e
 
@@ -165,7 +164,7 @@ module _ (x : Index) (a : Arrays) (k : ℕ) (on : Bool) (p : ℕ) (v : List Floa
 
 -- ---- overwrite
 
-module _ (x : Index) (a : Arrays) (i : ℕ) (v : List Float) (number : ℕ) (is : number ≡ refusal x a i (x .n) 9 v) where
+module _ (x : Index) (a : Arrays) (i : ℕ) (v : Item) (number : ℕ) (is : number ≡ refusal x a i (x .n) 9 v) where
   abbrev overwritten : Result
   overwritten = result (afterAdd x (x .n) (x .live)) (putCode (headerOf x) a false i v) (slot i)
 

@@ -14,7 +14,7 @@ use lib.ListN.{length, take, drop, set}
 use lib.Seq.{drop-drop}
 use lib.Ieee.{Float}
 use Rattle.lists.specs.Lists.{splice}
-use Rattle.digits.proofs.Below.{both}
+use Rattle.lists.proofs.Tests.{both}
 use Rattle.lloyd.specs.Tables as Tables
 use Rattle.lloyd.specs.Tables.{levelsOf, centroidsOf, boundariesOf}
 use Rattle.lloyd.proofs.Places.{lent}
@@ -24,19 +24,19 @@ use Rattle.codes.specs.Writing.{atWidth}
 use Rattle.codes.proofs.Slots.{block-there, length-block}
 use Rattle.codes.specs.Stage.{Stage}
 use Rattle.unit.proofs.Rotatable.{padded-most}
-use Rattle.stage.specs.Coding.{table}
-use Rattle.stage.specs.Calls.{spareAfter}
 use Rattle.encode.specs.declared.Header.{Header}
 use Rattle.encode.specs.declared.Scales.{Scales}
 use Rattle.encode.specs.Header.{padded, blockSize}
+use Rattle.encode.specs.Coding.{table}
 use Rattle.encode.specs.Coded as Coded
 use Rattle.encode.specs.Coded.{Code}
-use Rattle.encode.specs.Calls.{Stages, stages, sparesAfter, encodable, placed, encodedInto}
+use Rattle.encode.specs.Calls.{spareAfter, Stages, stages, sparesAfter, encodable, placed, encodedInto}
 use Rattle.encode.proofs.Fit.{is-encodable}
 use Rattle.index.specs.Arrays.{Arrays}
 use Rattle.index.specs.State.{slotAt, putSlot}
 use Rattle.index.specs.Codec.{tableOf, encoded}
 use Rattle.index.specs.Fit.{between}
+use Rattle.index.specs.Step.{Item}
 use Rattle.index.specs.Sound.{blockLength, Ranged}
 use Rattle.index.proofs.Encoded.{encoded-shaped}
 use Rattle.fit.proofs.Rooms.{in-width}
@@ -63,31 +63,31 @@ unfolding levelsOf
 levels-at = at-widths (λ w. (0 < levelsOf w) × (levelsOf w ≤ 2 ^ w)) (omega arith, omega arith) (omega arith, omega arith) (omega arith, omega arith)
 
 module _ (h : Header) (r : Ranged h) where
-  wide : (4 ≤ h .width) × (h .width ≤ 6)
-  wide = within 4 6 (h .width) (r .width)
+  wide : (4 ≤ h .bits) × (h .bits ≤ 6)
+  wide = within 4 6 (h .bits) (r .bits)
 
-  pub some-levels : 0 < levelsOf (h .width)
-  some-levels = levels-at (h .width) (wide .0) (wide .1) .0
+  pub some-levels : 0 < levelsOf (h .bits)
+  some-levels = levels-at (h .bits) (wide .0) (wide .1) .0
 
-  few-boundaries : length (boundariesOf (h .width)) < 2 ^ h .width
-  few-boundaries = let l = levels-at (h .width) (wide .0) (wide .1) in omega (arith, boundaries-length (h .width), l .0, l .1)
+  few-boundaries : length (boundariesOf (h .bits)) < 2 ^ h .bits
+  few-boundaries = let l = levels-at (h .bits) (wide .0) (wide .1) in omega (arith, boundaries-length (h .bits), l .0, l .1)
 
-  working-some : 1 ≤ h .working
-  working-some = within 1 (h .dim) (h .working) (r .working) .0
+  working-some : 1 ≤ h .«working_dim»
+  working-some = within 1 (h .dim) (h .«working_dim») (r .«working_dim») .0
 
-  working-most : h .working ≤ 4096
-  working-most = omega (arith, within 1 (h .dim) (h .working) (r .working) .1, within 1 4096 (h .dim) (r .dim) .1)
+  working-most : h .«working_dim» ≤ 4096
+  working-most = omega (arith, within 1 (h .dim) (h .«working_dim») (r .«working_dim») .1, within 1 4096 (h .dim) (r .dim) .1)
 
   -- the bytes of a slot, as the program asks for them
-  pub size-is : (b : ℕ) → b ≡ atWidth (h .width) (blockSize h) → b ≡ blockSize h
-  size-is b e = e ∙ in-width (h .width) (blockSize h) (wide .0) (wide .1)
+  pub size-is : (b : ℕ) → b ≡ atWidth (h .bits) (blockSize h) → b ≡ blockSize h
+  size-is b e = e ∙ in-width (h .bits) (blockSize h) (wide .0) (wide .1)
 
 -- the tables of the width, in the first places of arrays
-pub by-tables : (h : Header) (n : ℕ) → n ≡ levelsOf (h .width) → (bs cs : List Float) → bs ≡ Tables.padded (boundariesOf (h .width)) → cs ≡ Tables.padded (centroidsOf (h .width)) →
-    (fresh : Bool) (v : List Float) (block block2 : List ℕ) → encodedInto (table (take (n - 1 - 0) bs) (take (n - 0) cs)) h fresh v block block2 ≡ encodedInto (tableOf h) h fresh v block block2
+pub by-tables : (h : Header) (n : ℕ) → n ≡ levelsOf (h .bits) → (bs cs : List Float) → bs ≡ Tables.inPlaces (boundariesOf (h .bits)) → cs ≡ Tables.inPlaces (centroidsOf (h .bits)) →
+    (fresh : Bool) (v : Item) (block block2 : List ℕ) → encodedInto (table (take (n - 1 - 0) bs) (take (n - 0) cs)) h fresh v block block2 ≡ encodedInto (tableOf h) h fresh v block block2
 by-tables h n e bs cs f g fresh v block block2 =
     λ j. encodedInto
-    (table (lent (boundariesOf (h .width)) bs (n - 1) f (boundaries-count (h .width) n e) j) (lent (centroidsOf (h .width)) cs n g (e ∙ sym (centroids-length (h .width))) j))
+    (table (lent (boundariesOf (h .bits)) bs (n - 1) f (boundaries-count (h .bits) n e) j) (lent (centroidsOf (h .bits)) cs n g (e ∙ sym (centroids-length (h .bits))) j))
     h fresh v block block2
 
 -- ---- a part of an array, lent and put back
@@ -101,7 +101,7 @@ mid-splice from n xs ys e =
 
 -- ---- the places of slot i
 
-module _ (h : Header) (codes scales codes2 scales2 : List ℕ) (i : ℕ) (v : List Float) (ok : Codable h (dataIn codes scales codes2 scales2) i v) where
+module _ (h : Header) (codes scales codes2 scales2 : List ℕ) (i : ℕ) (v : Item) (ok : Codable h (dataIn codes scales codes2 scales2) i v) where
   abbrev a : Arrays
   a = dataIn codes scales codes2 scales2
 
@@ -129,12 +129,12 @@ module _ (h : Header) (codes scales codes2 scales2 : List ℕ) (i : ℕ) (v : Li
   part-block xs l = ap (λ (k : ℕ). take k (drop (i * size) xs)) {x = i * size + size - i * size} {y = size} (omega arith) ∙ sym (block-there size i xs l)
 
   encodes : (block2 : List ℕ) → (h .residual ≡ true → length block2 ≡ size) →
-      encodable h (length (tableOf h .boundaries)) (length v) (length (blockAt size i codes)) (length block2) ≡ true
+      encodable h (length (tableOf h .boundaries)) (length (v .vector)) (length (blockAt size i codes)) (length block2) ≡ true
   encodes block2 e =
       let r = ok .header in
-      let most = padded-most (h .working) (working-most h r) in
+      let most = padded-most (h .«working_dim») (working-most h r) in
       let long = length-block size i codes ends in
-      is-encodable h (length (tableOf h .boundaries)) (length v) (length (blockAt size i codes)) (length block2)
+      is-encodable h (length (tableOf h .boundaries)) (length (v .vector)) (length (blockAt size i codes)) (length block2)
       (record {
         rotates = record { some = working-some h r; most = working-most h r; has = ok .entries; room = most };
         first = record { width = record { some = omega (arith, wide h r .0); most = omega (arith, wide h r .1) }; table = few-boundaries h r; most = most; size = long };
@@ -150,12 +150,12 @@ module _ (h : Header) (codes scales codes2 scales2 : List ℕ) (i : ℕ) (v : Li
   code fresh = recoded h fresh old v
 
   module _ (fresh r : Bool) (e : h .residual ≡ r) (block2 : List ℕ) (f : r ≡ true → block2 ≡ blockAt size i codes2) where
-    coded : placed (encoded h (sparesAfter fresh (h .width) (padded h) (blockAt size i codes) block2) v) block2 ≡ placed (code fresh) block2
-    unfolding recoded Coded.encoded spareAfter slotAt
+    coded : placed (encoded h (sparesAfter fresh (h .bits) (padded h) (blockAt size i codes) block2) v) block2 ≡ placed (code fresh) block2
+    unfolding recoded Coded.encodedByTable spareAfter slotAt
     coded = go fresh r e f
       where
         go : (fresh r : Bool) → h .residual ≡ r → (r ≡ true → block2 ≡ blockAt size i codes2) →
-            placed (encoded h (sparesAfter fresh (h .width) (padded h) (blockAt size i codes) block2) v) block2 ≡ placed (recoded h fresh (slotAt h a i .code) v) block2
+            placed (encoded h (sparesAfter fresh (h .bits) (padded h) (blockAt size i codes) block2) v) block2 ≡ placed (recoded h fresh (slotAt h a i .code) v) block2
         go true r e f = refl
         go false true e f = rw (e, f refl)
         go false false e f = rw e
@@ -171,7 +171,7 @@ module _ (h : Header) (codes scales codes2 scales2 : List ℕ) (i : ℕ) (v : Li
       (cond both (splice (i * size) (t .second .block) codes2) codes2) (cond both (set scales2 i (t .second .scale)) scales2)
 
   put-stages : (fresh r : Bool) → h .residual ≡ r → (block2 : List ℕ) → putStages r (placed (code fresh) block2) ≡ putCode h a fresh i v
-  unfolding recoded Coded.encoded putCode putSlot
+  unfolding recoded Coded.encodedByTable putCode putSlot
   put-stages fresh true e block2 = rw e
   put-stages fresh false e block2 = rw e
 
@@ -191,7 +191,7 @@ module _ (h : Header) (codes scales codes2 scales2 : List ℕ) (i : ℕ) (v : Li
         go (some g) p = cc
 
     second-plain : h .residual ≡ false → placed (code fresh) block2 .second .block ≡ block2
-    unfolding recoded Coded.encoded
+    unfolding recoded Coded.encodedByTable
     second-plain e = rw e
 
   -- ---- the laws

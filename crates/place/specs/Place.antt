@@ -6,32 +6,31 @@ use mathlib.Core.List.{List, [], _∷_}
 use Prim.Native.Nat.{ℕ, zero, suc, _*_, _≤_, _<_}
 use lib.ListN.{length}
 use lib.Dec.{leb}
-use lib.Ieee.{Float}
 use denote.Ref.{RefT, now}
 use Rattle.encode.specs.declared.Header.{Header}
 use Rattle.encode.specs.Header.{blockSize}
 use Rattle.encode.specs.Coded.{Code, fault, noSpare, spareOf}
 use Rattle.index.specs.declared.Index.{Index}
 use Rattle.index.specs.Arrays.{Arrays}
-use Rattle.index.specs.State.{Slot, headerOf, capacity, markOf, slotAt, putSlot}
+use Rattle.index.specs.State.{Slot, headerOf, withCounts, capacity, markOf, slotAt, putSlot, newSlot, withCode}
 use Rattle.index.specs.Fit.{misfit}
 use Rattle.index.specs.Sound.{Ranged}
 use Rattle.index.specs.Codec.{encoded}
-use Rattle.index.specs.Step.{firstOf, when, refused, slot}
+use Rattle.index.specs.Step.{Item, firstOf, when, refused, slot}
 use Rattle.index.specs.Call.{Result}
 use Rattle.index.specs.Answers.{result}
 
 -- ---- the code
 
 -- what a slot stores of a vector: 01, store.rs: "Spare bits are 0 after an append; an overwrite keeps them."
-unfoldable pub recoded : Header → (fresh : Bool) → (old : Code) → List Float → Code
+unfoldable pub recoded : Header → (fresh : Bool) → (old : Code) → Item → Code
 recoded h fresh old v = encoded h (cond fresh noSpare (spareOf h old)) v
 
 -- the code of a vector in the places of a slot, all else kept
-unfoldable pub putCode : Header → Arrays → (fresh : Bool) → (i : ℕ) → List Float → Arrays
+unfoldable pub putCode : Header → Arrays → (fresh : Bool) → (i : ℕ) → Item → Arrays
 putCode h a fresh i v =
     let s = slotAt h a i in
-    let b = putSlot h a i (record { mark = s .mark; code = recoded h fresh (s .code) v }) in
+    let b = putSlot h a i (withCode s (recoded h fresh (s .code) v)) in
     record {
       codes = b .codes;
       scales = b .scales;
@@ -51,9 +50,9 @@ abbrev pub dataOf : (codes scales codes2 scales2 : RefT (List ℕ)) → Arrays
 dataOf a b c d = dataIn (now a) (now b) (now c) (now d)
 
 -- the vector can be coded, and the slot has its places
-pub record Codable (h : Header) (a : Arrays) (i : ℕ) (v : List Float) : Type 0 where
+pub record Codable (h : Header) (a : Arrays) (i : ℕ) (v : Item) : Type 0 where
   pub header : Ranged h
-  pub entries : h .working ≤ length v
+  pub entries : h .«working_dim» ≤ length (v .vector)
   pub codes : suc i * blockSize h ≤ length (a .codes)
   pub scales : i < length (a .scales)
   pub codes2 : h .residual ≡ true → suc i * blockSize h ≤ length (a .codes2)
@@ -63,21 +62,11 @@ pub record Codable (h : Header) (a : Arrays) (i : ℕ) (v : List Float) : Type 0
 
 -- the record after an accepted add: 01, "Every accepted add, overwrites too, ends it" (the cascade)
 unfoldable pub afterAdd : Index → (n live : ℕ) → Index
-afterAdd x n live =
-    record {
-      dim = x .dim;
-      «working_dim» = x .«working_dim»;
-      seed = x .seed;
-      bits = x .bits;
-      residual = x .residual;
-      n = n;
-      live = live;
-      cascade = false;
-    }
+afterAdd x n live = withCounts x n live false
 
 -- 13; "Add: 1, 2, 3", and the number `full` where the slot is not below `room`
-unfoldable pub refusal : Index → Arrays → (slot room full : ℕ) → List Float → ℕ
-refusal x a i room full v = firstOf (when (misfit x a) 13 ∷ fault (headerOf x) v ∷ when (leb room i) full ∷ [])
+unfoldable pub refusal : Index → Arrays → (slot room full : ℕ) → Item → ℕ
+refusal x a i room full v = firstOf (when (misfit x a) 13 ∷ fault (headerOf x) (v .vector) ∷ when (leb room i) full ∷ [])
 
 -- a refusal leaves record and arrays as they were
 abbrev pub unlessRefused : Index → Arrays → (refusal : ℕ) → Result → Result
@@ -85,13 +74,13 @@ unlessRefused x a zero r = r
 unlessRefused x a (suc n) r = result x a (refused (suc n))
 
 -- A live slot behind those in use, with or without a key. 8: "slots in use equal to capacity".
-unfoldable pub appending : Index → Arrays → (key : ℕ) → (keyed : Bool) → (position : ℕ) → List Float → Result
+unfoldable pub appending : Index → Arrays → (key : ℕ) → (keyed : Bool) → (position : ℕ) → Item → Result
 appending x a k on p v =
     let h = headerOf x in
-    let s : Slot = record { mark = markOf 1 on k p; code = encoded h noSpare v } in
+    let s : Slot = newSlot (markOf 1 on k p) (encoded h noSpare v) in
     unlessRefused x a (refusal x a (x .n) (capacity h a) 8 v) (result (afterAdd x (suc (x .n)) (suc (x .live))) (putSlot h a (x .n) s) (slot (x .n)))
 
 -- The code of slot i anew; its mark stays. A slot past those in use is refused by 9.
-unfoldable pub overwriting : Index → Arrays → (i : ℕ) → List Float → Result
+unfoldable pub overwriting : Index → Arrays → (i : ℕ) → Item → Result
 overwriting x a i v =
     unlessRefused x a (refusal x a i (x .n) 9 v) (result (afterAdd x (x .n) (x .live)) (putCode (headerOf x) a false i v) (slot i))

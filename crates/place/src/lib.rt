@@ -8,6 +8,7 @@ ghost use Rattle.encode.specs.Calls.{stages, encodedInto};
 ghost use Rattle.index.specs.Arrays.{lent};
 ghost use Rattle.index.specs.State.{headerOf};
 ghost use Rattle.index.specs.Codec.{tableOf};
+ghost use Rattle.index.specs.Step.{itemOf};
 ghost use Rattle.index.specs.Answers.{added};
 ghost use Rattle.place.specs.Place.{dataOf, Codable, putCode, afterAdd, refusal, appending, overwriting};
 use encode::Header;
@@ -23,9 +24,9 @@ fn header_of(index: Index) -> Header
 {
     Header {
         dim: index.dim,
-        working: index.working_dim,
+        working_dim: index.working_dim,
         seed: index.seed,
-        width: index.bits,
+        bits: index.bits,
         residual: index.residual,
     }
 }
@@ -38,12 +39,14 @@ fn encode_by_width(
     block: &mut [u8],
     block2: &mut [u8],
 ) -> Scales
-    requires { ⌜ 0 < levelsOf (header .width) ⌝ }
-    ensures { λ r. ⌜ stages r (now (block .exit)) (now (block2 .exit)) ≡ encodedInto (tableOf header) header fresh (now (v .entry)) (now (block .entry)) (now (block2 .entry)) ⌝ }
+    requires { ⌜ 0 < levelsOf (header .bits) ⌝ }
+    ensures { λ r. ⌜
+        stages r (now (block .exit)) (now (block2 .exit))
+        ≡ encodedInto (tableOf header) header fresh (itemOf (now (v .entry))) (now (block .entry)) (now (block2 .entry)) ⌝ }
 {
-    let n = lloyd::levels(header.width);
-    let boundaries = lloyd::boundaries(header.width);
-    let centroids = lloyd::centroids(header.width);
+    let n = lloyd::levels(header.bits);
+    let boundaries = lloyd::boundaries(header.bits);
+    let centroids = lloyd::centroids(header.bits);
     encode::encode(
         header,
         fresh,
@@ -66,10 +69,12 @@ fn put_code(
     codes2: &mut [u8],
     scales2: &mut [u32],
 )
-    requires { ⌜ Codable header (dataOf codes scales codes2 scales2) slot (now v) ⌝ }
-    ensures { λ _. ⌜ dataOf (codes .exit) (scales .exit) (codes2 .exit) (scales2 .exit) ≡ putCode header (dataOf (codes .entry) (scales .entry) (codes2 .entry) (scales2 .entry)) fresh slot (now (v .entry)) ⌝ }
+    requires { ⌜ Codable header (dataOf codes scales codes2 scales2) slot (itemOf (now v)) ⌝ }
+    ensures { λ _. ⌜
+        dataOf (codes .exit) (scales .exit) (codes2 .exit) (scales2 .exit)
+        ≡ putCode header (dataOf (codes .entry) (scales .entry) (codes2 .entry) (scales2 .entry)) fresh slot (itemOf (now (v .entry))) ⌝ }
 {
-    let size = codes::bytes_per_vector(padding::padded_dim(header.working), header.width);
+    let size = codes::bytes_per_vector(padding::padded_dim(header.working_dim), header.bits);
     let from = slot * size;
     let to = from + size;
     if header.residual {
@@ -118,7 +123,7 @@ fn put_mark(
     keys[slot] = key;
     keyed[slot] = has_key;
     held[slot] = held_if_keyed(has_key, position);
-    fit::set_live_mark(alive, slot, true);
+    marks::set_live_mark(alive, slot, true);
 }
 
 // ---- append and overwrite
@@ -150,7 +155,9 @@ fn refusal(
     full: u8,
     v: &[f32],
 ) -> u8
-    ensures { λ r. ⌜ r ≡ refusal index (lent (codes .entry) (scales .entry) (keys .entry) (keyed .entry) (held .entry) (alive .entry) (codes2 .entry) (scales2 .entry)) slot room full (now (v .entry)) ⌝ }
+    ensures { λ r. ⌜
+        r ≡ refusal index (lent (codes .entry) (scales .entry) (keys .entry) (keyed .entry) (held .entry) (alive .entry) (codes2 .entry) (scales2 .entry))
+        slot room full (itemOf (now (v .entry))) ⌝ }
 {
     if fit::fits(
         index,
@@ -163,7 +170,7 @@ fn refusal(
         codes2,
         scales2,
     ) {
-        let fault = unit::vector_fault(index.dim, index.working_dim, v);
+        let fault = vectors::vector_fault(index.dim, index.working_dim, v);
         if fault != 0 {
             return fault;
         }
@@ -191,7 +198,10 @@ pub fn append(
     position: u32,
     v: &[f32],
 ) -> Added
-    ensures { λ r. ⌜ added index r (lent (codes .exit) (scales .exit) (keys .exit) (keyed .exit) (held .exit) (alive .exit) (codes2 .exit) (scales2 .exit)) ≡ appending index (lent (codes .entry) (scales .entry) (keys .entry) (keyed .entry) (held .entry) (alive .entry) (codes2 .entry) (scales2 .entry)) key «has_key» position (now (v .entry)) ⌝ }
+    ensures { λ r. ⌜
+        added index r (lent (codes .exit) (scales .exit) (keys .exit) (keyed .exit) (held .exit) (alive .exit) (codes2 .exit) (scales2 .exit))
+        ≡ appending index (lent (codes .entry) (scales .entry) (keys .entry) (keyed .entry) (held .entry) (alive .entry) (codes2 .entry) (scales2 .entry))
+        key «has_key» position (itemOf (now (v .entry))) ⌝ }
 {
     let n = index.n;
     let room = fit::capacity(
@@ -242,7 +252,10 @@ pub fn overwrite(
     slot: usize,
     v: &[f32],
 ) -> Added
-    ensures { λ r. ⌜ added index r (lent (codes .exit) (scales .exit) (keys .entry) (keyed .entry) (held .entry) (alive .entry) (codes2 .exit) (scales2 .exit)) ≡ overwriting index (lent (codes .entry) (scales .entry) (keys .entry) (keyed .entry) (held .entry) (alive .entry) (codes2 .entry) (scales2 .entry)) slot (now (v .entry)) ⌝ }
+    ensures { λ r. ⌜
+        added index r (lent (codes .exit) (scales .exit) (keys .entry) (keyed .entry) (held .entry) (alive .entry) (codes2 .exit) (scales2 .exit))
+        ≡ overwriting index (lent (codes .entry) (scales .entry) (keys .entry) (keyed .entry) (held .entry) (alive .entry) (codes2 .entry) (scales2 .entry))
+        slot (itemOf (now (v .entry))) ⌝ }
 {
     let number = refusal(
         index,

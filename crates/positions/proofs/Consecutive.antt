@@ -8,11 +8,11 @@ use native.Mathlib.Nat.{zero-add, suc-add, eq-zero-or-pos}
 use native.Mathlib.Omega.{arith}
 use lib.Dec.{ltb, eqb}
 use borrow.Author.Tests.{ltb-true, ltb-false, eqb-true, eqb-false, lt-ltb, le-ltb, eq-eqb}
-use Rattle.lists.specs.Keep.{bit, count}
+use Rattle.lists.specs.Keep.{bit, count, all}
 use Rattle.lists.proofs.Keep.{each-mem, count-implied, count-same, count-share, count-none}
-use Rattle.index.specs.Fit.{Row, all, ofKey, ofKeyAt, positioned}
-use Rattle.position_tree.specs.Decides.{Decides}
-use Rattle.position_tree.proofs.Decides.{decided}
+use Rattle.index.specs.Fit.{Row, ofKey, ofKeyAt, positioned}
+use Rattle.positions.specs.Decides.{Decides}
+use Rattle.positions.proofs.Decides.{decided}
 use Rattle.positions.proofs.Tests.{both, left, right, all-mem, mem-all}
 
 -- ---- `count` by membership

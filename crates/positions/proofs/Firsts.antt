@@ -7,10 +7,10 @@ use Prim.Native.Nat.{ℕ, _+_, _<_}
 use native.Mathlib.Nat.{eq-or-lt-of-le}
 use native.Mathlib.Omega.{arith}
 use lib.ListN.{getD}
-use Rattle.position_tree.specs.Decides.{Decides}
-use Rattle.position_tree.specs.Ordered.{Keys, Ordered, AllFirst}
-use Rattle.position_tree.proofs.Decides.{holds, fails}
-use Rattle.position_tree.proofs.Order.{loose-new, first-ordered}
+use Rattle.positions.specs.Decides.{Decides}
+use Rattle.positions.specs.Ordered.{Keys, Ordered, AllFirst}
+use Rattle.positions.proofs.Decides.{holds, fails}
+use Rattle.positions.proofs.Order.{loose-new, first-ordered}
 use Rattle.positions.specs.Positions.{NoneKeyed, Climbing}
 
 pub not-decides : (b : Bool) → Decides (not b) (b ≡ false)

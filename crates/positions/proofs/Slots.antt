@@ -8,13 +8,13 @@ use native.Mathlib.Nat.{eq-or-lt-of-le, le-of-suc-le-suc, eq-zero-or-pos}
 use native.Mathlib.Omega.{arith}
 use borrow.Author.Tests.{leb-true, le-leb}
 use Rattle.lists.specs.Lists.{tab}
-use Rattle.lists.specs.Keep.{bit, count}
+use Rattle.lists.specs.Keep.{bit, count, all}
 use Rattle.lists.proofs.Keep.{count-append}
-use Rattle.index.specs.Fit.{Row, all, ofKeyAt, positioned}
-use Rattle.position_tree.specs.Decides.{Decides}
-use Rattle.position_tree.specs.Ordered.{Keys, Room, Holds, Ordered}
+use Rattle.index.specs.Fit.{Row, ofKeyAt, positioned}
+use Rattle.positions.specs.Decides.{Decides}
+use Rattle.positions.specs.Ordered.{Keys, Room, Holds, Ordered}
 use Rattle.positions.specs.Positions.{hasRoom, rowOf, rowsOf, positionsFit}
-use Rattle.position_tree.proofs.Decides.{decided, decides-true}
+use Rattle.positions.proofs.Decides.{decided, decides-true}
 use Rattle.positions.proofs.Tests.{both, left, right, each, nothing, also, all-mem, mem-all}
 use Rattle.positions.proofs.Consecutive.{Consecutive, ofKeyAt-parts, ofKeyAt-made, consecutive}
 

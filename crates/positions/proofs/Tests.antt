@@ -5,7 +5,7 @@ use mathlib.Core.List.{List, [], _∷_, List·Memᴰ, List·Memᴰ·head, List·
 use Prim.Native.Nat.{ℕ, zero, suc}
 use lib.ListN.{getD}
 use lib.Dec.{T}
-use Rattle.index.specs.Fit.{every, all}
+use Rattle.lists.specs.Keep.{all, every}
 
 module _ (b c : Bool) where
   pub both : b ≡ true → c ≡ true → (b && c) ≡ true

@@ -6,8 +6,9 @@ use Prim.Native.Nat.{ℕ, suc, _<_}
 use lib.ListN.{length, getD}
 use lib.Dec.{leb}
 use Rattle.lists.specs.Lists.{tab}
-use Rattle.index.specs.Fit.{every, all, Row, positioned}
-use Rattle.position_tree.specs.Ordered.{Keys}
+use Rattle.index.specs.Fit.{Row, positioned}
+use Rattle.lists.specs.Keep.{all, every}
+use Rattle.positions.specs.Ordered.{Keys}
 
 -- the arrays have the first n slots, and these are no more than an index may have (`Room`)
 unfoldable pub hasRoom : Keys → ℕ → Bool

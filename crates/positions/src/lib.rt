@@ -1,11 +1,13 @@
 // Refusal 13's test of the positions: each key's t slots hold the positions 0 to t - 1 once each. Where keys and positions rise with the slots, or there are none, one pass
 // shows it; else a tree does.
+mod tree;
+
 ghost use mathlib.Core.Path.{_≡_};
 ghost use mathlib.Core.Bool.{true, false, cond};
 ghost use Prim.Native.Nat.{suc, _+_, _^_, _≤_, _<_};
 ghost use lib.ListN.{length, getD};
-ghost use Rattle.position_tree.specs.Decides.{Decides};
-ghost use Rattle.position_tree.specs.Ordered.{lentKeys, Room, Ordered};
+ghost use Rattle.positions.specs.Decides.{Decides};
+ghost use Rattle.positions.specs.Ordered.{lentKeys, Room, Ordered, AllFirst};
 ghost use Rattle.positions.specs.Positions.{positionsFit, Follows, Rising, NoneKeyed, Climbing};
 
 fn wide(x: u32) -> usize
@@ -14,7 +16,37 @@ fn wide(x: u32) -> usize
     x as usize
 }
 
+// Whether the arrays have the first n slots, at most 65,536.
+fn has_room(keys: &[u64], keyed: &[bool], held: &[u32], n: usize) -> bool
+    ensures { λ r. ⌜ Decides r (Room (lentKeys (keys .entry) (keyed .entry) (held .entry)) n) ⌝ }
+{
+    if 65536 < n {
+        return false;
+    }
+    if keys.len() < n {
+        return false;
+    }
+    if keyed.len() < n {
+        return false;
+    }
+    n <= held.len()
+}
+
 // ---- no position but 0
+
+// Whether each of the first n slots holds position 0. None of them ends the loop, so that the compiler takes many at a time.
+fn all_first(held: &[u32], n: usize) -> bool
+    requires { ⌜ n ≤ length (now held) ⌝ }
+    ensures { λ r. ⌜ Decides r (AllFirst (now (held .entry)) n) ⌝ }
+{
+    let mut all = true;
+    let mut i = 0;
+    while i < n {
+        all = all & (held[i] == 0);
+        i += 1;
+    }
+    all
+}
 
 // Whether none of the first n slots has a key. None of them ends the loop, so that the compiler takes many at a time.
 fn none_keyed(keyed: &[bool], n: usize) -> bool
@@ -50,7 +82,7 @@ fn plain(keys: &[u64], keyed: &[bool], held: &[u32], n: usize) -> bool
     requires { ⌜ Room (lentKeys keys keyed held) n ⌝ }
     ensures { λ r. ⌜ (r ≡ true → Ordered (lentKeys (keys .entry) (keyed .entry) (held .entry)) n) ⌝ }
 {
-    if position_tree::all_first(held, n) {
+    if all_first(held, n) {
         if none_keyed(keyed, n) {
             return true;
         }
@@ -120,25 +152,18 @@ fn rise(keys: &[u64], keyed: &[bool], held: &[u32], n: usize) -> bool
 
 // ---- the test
 
-// Whether one pass shows that the arrays have the first n slots and their positions are in order.
-fn shown(keys: &[u64], keyed: &[bool], held: &[u32], n: usize) -> bool
-    ensures { λ r. ⌜ (r ≡ true → Room (lentKeys (keys .entry) (keyed .entry) (held .entry)) n × Ordered (lentKeys (keys .entry) (keyed .entry) (held .entry)) n) ⌝ }
-{
-    if position_tree::has_room(keys, keyed, held, n) {
-        if plain(keys, keyed, held, n) {
-            return true;
-        }
-        return rise(keys, keyed, held, n);
-    }
-    false
-}
-
 // Whether the arrays have the first n slots, at most 65,536, and there each key's t slots hold the positions 0 to t - 1 once each and the others hold 0.
 pub fn positions_fit(keys: &[u64], keyed: &[bool], held: &[u32], n: usize) -> bool
     ensures { λ r. ⌜ r ≡ positionsFit (lentKeys (keys .entry) (keyed .entry) (held .entry)) n ⌝ }
 {
-    if shown(keys, keyed, held, n) {
-        return true;
+    if has_room(keys, keyed, held, n) {
+        if plain(keys, keyed, held, n) {
+            return true;
+        }
+        if rise(keys, keyed, held, n) {
+            return true;
+        }
+        return tree::in_order(keys, keyed, held, n);
     }
-    position_tree::in_order(keys, keyed, held, n)
+    false
 }

@@ -1,2 +1,2 @@
--- Laws that the proofs of several functions cite.
-mod Places
+-- Laws that the proofs of this crate's functions cite, and those of the crate above.
+pub mod Places

@@ -13,9 +13,9 @@ use lib.Seq.{take-all, getD-set-same, getD-set-other}
 use lib.Ieee.{Float, nan, binary32, ofBits}
 use Rattle.lists.specs.Lists.{over}
 use Rattle.lists.proofs.Laws.{getD-default, begun, begun-next, begun-all}
-use Rattle.pattern.specs.Binary32.{_⊕_, _⊗_, +0, sumFrom, sum, sumSquares}
+use Rattle.pattern.specs.Binary32.{_⊕_, _⊗_, +0, sumFrom, sumOf, sumSquares}
 use Rattle.pattern.proofs.Sums.{sum-next}
-use Rattle.lloyd.specs.Quantizer.{quantized, centroidAt, codable, coded, sumAt, codedSquares}
+use Rattle.lloyd.specs.Quantizer.{quantized, centroidAt, decoded, quantizable, codedInto, sumAt, codedSquares}
 use Rattle.lloyd.proofs.Sound.{both}
 use Rattle.lloyd.proofs.Quantized.{quantized-le}
 
@@ -65,9 +65,9 @@ squares-next centroids table n x h e before =
     (getD-set-same table n (x ⊗ x) +0 h ∙ ap (λ (y : Float). y ⊗ y) e)
 
 pub squares-sum : (centroids table boundaries xs : List Float) → ((k : ℕ) → k ≤ length boundaries → centroidAt table k ≡ squareAt centroids k) →
-    sumAt table boundaries xs ≡ sumSquares (map (centroidAt centroids) (map (quantized boundaries) xs))
-unfolding sumAt
-squares-sum centroids table boundaries xs h = ap sum (go xs)
+    sumAt table boundaries xs ≡ sumSquares (decoded centroids (map (quantized boundaries) xs))
+unfolding sumAt decoded
+squares-sum centroids table boundaries xs h = ap sumOf (go xs)
   where
     go : (xs : List Float) → map (λ x. centroidAt table (quantized boundaries x)) xs ≡ map (λ x. x ⊗ x) (map (centroidAt centroids) (map (quantized boundaries) xs))
     go [] = refl
@@ -76,19 +76,19 @@ squares-sum centroids table boundaries xs h = ap sum (go xs)
 -- ---- the whole call
 
 module _ (boundaries centroids xs : List Float) (codes : List ℕ) where
-  pub not-codable : codable (length boundaries) (length xs) (length codes) ≡ false →
-      (ofBits binary32 0 ≡ codedSquares boundaries centroids xs codes) × (codes ≡ coded boundaries xs codes)
-  unfolding coded codedSquares ofBits
+  pub not-codable : quantizable (length boundaries) (length xs) (length codes) ≡ false →
+      (ofBits binary32 0 ≡ codedSquares boundaries centroids xs codes) × (codes ≡ codedInto boundaries xs codes)
+  unfolding codedInto codedSquares ofBits
   not-codable e = (rw e, rw e)
 
-  pub coded-all : codable (length boundaries) (length xs) (length codes) ≡ true → (table : List Float) (r : Float) (next : List ℕ) →
+  pub coded-all : quantizable (length boundaries) (length xs) (length codes) ≡ true → (table : List Float) (r : Float) (next : List ℕ) →
       ((k : ℕ) → k ≤ length boundaries → centroidAt table k ≡ squareAt centroids k) → r ≡ sumAt table boundaries xs → next ≡ over (map (quantized boundaries) xs) codes →
-      (r ≡ codedSquares boundaries centroids xs codes) × (next ≡ coded boundaries xs codes)
-  unfolding coded codedSquares
+      (r ≡ codedSquares boundaries centroids xs codes) × (next ≡ codedInto boundaries xs codes)
+  unfolding codedInto codedSquares
   coded-all e table r next squares sums written = (rw e (sums ∙ squares-sum centroids table boundaries xs squares), rw e written)
 
-pub codable-of : (boundaries values places : ℕ) → codable boundaries values places ≡ true → (boundaries ≤ 255) × (values ≤ places)
-unfolding codable
+pub codable-of : (boundaries values places : ℕ) → quantizable boundaries values places ≡ true → (boundaries ≤ 255) × (values ≤ places)
+unfolding quantizable
 codable-of boundaries values places e =
     let b = both (leb boundaries 255) (leb values places) (subst T (sym e) tt) in
     (lit≤ (b .0), lit≤ (b .1))

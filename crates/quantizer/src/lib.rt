@@ -1,46 +1,14 @@
-// Codes of values and centroids of codes: at a width, by the tables of lloyd, and over any tables that are lent.
+// The codes of values: at a width, by the tables of lloyd, and over any boundaries that are lent.
 ghost use mathlib.Core.Path.{_≡_};
 ghost use mathlib.Core.List.{map};
-ghost use mathlib.Core.Bool.{cond, true};
+ghost use mathlib.Core.Bool.{true};
 ghost use Prim.Native.Nat.{ℕ, _≤_};
 ghost use lib.ListN.{length};
-ghost use lib.Ieee.{lt};
 ghost use Rattle.lists.specs.Lists.{over};
 ghost use Rattle.pattern.specs.Binary32.{_⊗_};
-ghost use Rattle.lloyd.specs.Tables.{centroidsOf, boundariesOf};
-ghost use Rattle.lloyd.specs.Quantizer.{quantized, centroidAt, codable, coded, codedSquares, sumAt};
+ghost use Rattle.lloyd.specs.Tables.{boundariesOf};
+ghost use Rattle.lloyd.specs.Quantizer.{quantized, centroidAt, quantizable, codedInto, codedSquares, sumAt};
 ghost use Rattle.lloyd.specs.Sound.{Rises};
-
-// n where x is above the boundary b, else 0. The choice needs no jump.
-fn above(b: f32, x: f32, n: usize) -> usize
-    ensures { λ r. ⌜ r ≡ cond (lt b x) n 0 ⌝ }
-{
-    if x > b { n } else { 0 }
-}
-
-// The code of x over any boundaries, whether they rise or not.
-fn quantize_in(boundaries: &[f32], x: f32) -> usize
-    ensures { λ r. ⌜ r ≡ quantized (now (boundaries .entry)) x ⌝ }
-{
-    let mut code = 0;
-    let mut i = 0;
-    while i < boundaries.len() {
-        code += above(boundaries[i], x, 1);
-        i += 1;
-    }
-    code
-}
-
-// The centroid of a code in any table, and +0 where there is none.
-pub fn dequantize_in(centroids: &[f32], code: usize) -> f32
-    ensures { λ r. ⌜ r ≡ centroidAt (now (centroids .entry)) code ⌝ }
-{
-    if code < centroids.len() {
-        centroids[code]
-    } else {
-        0.0
-    }
-}
 
 // The code of x over n boundaries that rise: at least `code` and at most `code + left`, and each turn halves `left`. At 15, 31 and 63 the comparisons
 // are those of the Rust's search.
@@ -53,7 +21,7 @@ fn halving_from(boundaries: &[f32], x: f32, n: usize) -> usize
     let mut left = n;
     while 0 < left {
         let half = left - left / 2;
-        code += above(boundaries[code + half - 1], x, half);
+        code += counting::above(boundaries[code + half - 1], x, half);
         left = left / 2;
     }
     code
@@ -84,14 +52,6 @@ pub fn quantize(x: f32, bits: u8) -> u8
     halving(&table[0..n - 1], x) as u8
 }
 
-// The centroid of a code at a width, and +0 where there is none.
-pub fn dequantize(code: u8, bits: u8) -> f32
-    ensures { λ r. ⌜ r ≡ centroidAt (centroidsOf bits) code ⌝ }
-{
-    let table = lloyd::centroids(bits);
-    dequantize_in(&table[0..lloyd::levels(bits)], code as usize)
-}
-
 // True only of a table that rises strictly.
 fn rises(table: &[f32]) -> bool
     ensures { λ r. ⌜ (r ≡ true → Rises (now (table .entry))) ⌝ }
@@ -116,12 +76,12 @@ fn code_of(rising: bool, boundaries: &[f32], x: f32, n: usize) -> usize
     if rising {
         return halving_from(boundaries, x, n);
     }
-    quantize_in(boundaries, x)
+    counting::quantize_in(boundaries, x)
 }
 
 // Whether each code over so many boundaries fits a byte, and there is a place for each value.
 fn is_codable(boundaries: usize, values: usize, places: usize) -> bool
-    ensures { λ r. ⌜ r ≡ codable boundaries values places ⌝ }
+    ensures { λ r. ⌜ r ≡ quantizable boundaries values places ⌝ }
 {
     if 255 < boundaries {
         return false;
@@ -142,7 +102,7 @@ fn squares(centroids: &[f32], n: usize) -> [f32; 256]
     let mut table = empty_table();
     let mut code = 0;
     while code <= n {
-        let c = dequantize_in(centroids, code);
+        let c = dequantizer::dequantize_in(centroids, code);
         table[code] = c * c;
         code += 1;
     }
@@ -195,18 +155,11 @@ fn write_all(rising: bool, boundaries: &[f32], table: &[f32], xs: &[f32], codes:
 // tested once, for all of them. Where a code might not fit a byte, or `codes` is too short, nothing is written.
 pub fn quantize_summing(boundaries: &[f32], centroids: &[f32], xs: &[f32], codes: &mut [u8]) -> f32
     ensures sum { λ r. ⌜ r ≡ codedSquares (now (boundaries .entry)) (now (centroids .entry)) (now (xs .entry)) (now (codes .entry)) ⌝ }
-    ensures codes { λ _. ⌜ now (codes .exit) ≡ coded (now (boundaries .entry)) (now (xs .entry)) (now (codes .entry)) ⌝ }
+    ensures codes { λ _. ⌜ now (codes .exit) ≡ codedInto (now (boundaries .entry)) (now (xs .entry)) (now (codes .entry)) ⌝ }
 {
     if !is_codable(boundaries.len(), xs.len(), codes.len()) {
         return 0.0;
     }
     let squares = squares(centroids, boundaries.len());
     write_all(rises(boundaries), boundaries, &squares, xs, codes)
-}
-
-// The same without the sum, for which any table will do.
-pub fn quantize_all(boundaries: &[f32], xs: &[f32], codes: &mut [u8])
-    ensures { λ _. ⌜ now (codes .exit) ≡ coded (now (boundaries .entry)) (now (xs .entry)) (now (codes .entry)) ⌝ }
-{
-    quantize_summing(boundaries, boundaries, xs, codes);
 }

@@ -13,7 +13,8 @@ use Rattle.index.specs.Step.{firstOf}
 use Rattle.index.specs.Read.{countIn, headerIn, headFault, overLimits, slotsIn, stateIn, readRefusal, readUnless, readInto}
 use Rattle.index.proofs.Kept.{when-none}
 use Rattle.index.proofs.Read.{all-passed}
-use Rattle.read.specs.Parts.{bodyFault, handed}
+use Rattle.read.specs.Parts.{bodyFault}
+use Rattle.index.specs.Make.{begun}
 
 first-some : (n : ℕ) (ns : List ℕ) → (n ≡ 0 → ⊥) → n ≡ firstOf (n ∷ ns)
 unfolding firstOf
@@ -44,14 +45,14 @@ module _ (file : List ℕ) (a : Arrays) where
   passed-head e = let t = all-passed _ e in (t .0, when-none (overLimits file) 19 (t .1 .0))
 
   -- a file that is not refused, and one that is
-  pub read-all : readRefusal file a ≡ 0 → (x : Index) (b : Arrays) → x ≡ recordOf (stateIn file) → b ≡ overlay a (slotsIn file) → handed (Made.Index x) b ≡ readInto a file
+  pub read-all : readRefusal file a ≡ 0 → (x : Index) (b : Arrays) → x ≡ recordOf (stateIn file) → b ≡ overlay a (slotsIn file) → begun (Made.Index x) b ≡ readInto a file
   unfolding readInto
   read-all e x b f g = (λ i. record { answer = Made.Index (f i); arrays = g i }) ∙ ap (λ (n : ℕ). readUnless n a file) (sym e)
 
-  pub read-none : (n : ℕ) → n ≡ readRefusal file a → (n ≡ 0 → ⊥) → handed (Made.Refused n) a ≡ readInto a file
+  pub read-none : (n : ℕ) → n ≡ readRefusal file a → (n ≡ 0 → ⊥) → begun (Made.Refused n) a ≡ readInto a file
   unfolding readInto
   read-none n e h = go n h ∙ ap (λ (m : ℕ). readUnless m a file) e
     where
-      go : (m : ℕ) → (m ≡ 0 → ⊥) → handed (Made.Refused m) a ≡ readUnless m a file
+      go : (m : ℕ) → (m ≡ 0 → ⊥) → begun (Made.Refused m) a ≡ readUnless m a file
       go zero k = absurd (k refl)
       go (suc m) k = refl

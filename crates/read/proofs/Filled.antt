@@ -14,45 +14,35 @@ use Rattle.lists.proofs.Front.{map-tab, getD-front}
 use Rattle.codes.specs.Stage.{Stage}
 use Rattle.encode.specs.declared.Header.{Header}
 use Rattle.encode.specs.Header.{blockSize}
+use Rattle.index.specs.declared.Form.{Form}
 use Rattle.index.specs.declared.Index.{Index}
 use Rattle.index.specs.Arrays.{Arrays}
-use Rattle.index.specs.State.{Mark, keyed, Slot, live, recordOf, aliveOf, hasKey, keyWord, position, seconds, scalesOf, blocksOf, overlay}
-use Rattle.index.specs.Read.{hasSecond, versionIn, countIn, headerIn, stageFrom, keyFrom, markFrom, stagesIn, secondIn, tableIn, entryCount, entriesIn, slotIn, slotsIn, stateIn, entryFrom}
+use Rattle.index.specs.State.{Mark, keyed, Slot, live, recordWith, recordOf, aliveOf, hasKey, keyWord, position, seconds, scalesOf, blocksOf, overlay}
+use Rattle.index.specs.Read.{formIn, countIn, headerIn, stageFrom, keyFrom, markFrom, stagesIn, secondIn, tableIn, entryCount, entriesIn, slotIn, slotsIn, stateIn, entryFrom}
 use Rattle.index.specs.Sound.{AllShaped}
 use Rattle.index.proofs.Overlay.{secondOf, plain-seconds, residual-seconds}
 use Rattle.index.proofs.Read.{Accepted, read-live, read-length, read-sound}
 use Rattle.held_order.specs.Restored.{risingPosition}
 use Rattle.compact.proofs.Rising.{rising-map, rising-positions}
-use Rattle.key_table.specs.Table.{slotsFrom, keyBy, wordFrom, onFrom}
-use Rattle.key_table.proofs.Keys.{keys-are}
+use Rattle.read.specs.Table.{slotsFrom, keyBy, wordFrom, onFrom}
+use Rattle.read.proofs.Keys.{keys-are}
 
 -- the record: all slots are live
 pub record-is : (file : List ℕ) (h : Header) (n : ℕ) → h ≡ headerIn file → n ≡ countIn file →
-    _≡_ {A = Index}
-    (record { dim = h .dim; «working_dim» = h .working; seed = h .seed; bits = h .width; residual = h .residual; n = n; live = n; cascade = false })
-    (recordOf (stateIn file))
+    recordWith h n n false ≡ recordOf (stateIn file)
 unfolding recordOf stateIn
 record-is file h n e f =
     let many : n ≡ length (slotsIn file) = f ∙ sym (read-length file) in
     let lives : n ≡ count live (slotsIn file) = many ∙ sym (count-all live (slotsIn file) (read-live file)) in
-    λ i. record {
-      dim = e i .dim;
-      «working_dim» = e i .working;
-      seed = e i .seed;
-      bits = e i .width;
-      residual = e i .residual;
-      n = many i;
-      live = lives i;
-      cascade = false;
-    }
+    λ i. recordWith (e i) (many i) (lives i) false
 
 pub record-count : (file : List ℕ) (x : Index) → x ≡ recordOf (stateIn file) → x .n ≡ countIn file
 unfolding recordOf stateIn
 record-count file x e = ap (λ (y : Index). y .n) e ∙ read-length file
 
 module _ (file : List ℕ) where
-  abbrev v : ℕ
-  v = versionIn file
+  abbrev f : Form
+  f = formIn file
 
   abbrev w : ℕ
   w = blockSize (headerIn file)
@@ -65,30 +55,30 @@ module _ (file : List ℕ) where
 
   -- what the program has done
   pub record Filled (a b : Arrays) : Type 0 where
-    pub codes : b .codes ≡ over (blocksOf (tab (stageFrom v w n (stagesIn file)) n)) (a .codes)
-    pub scales : b .scales ≡ over (scalesOf (tab (stageFrom v w n (stagesIn file)) n)) (a .scales)
+    pub codes : b .codes ≡ over (blocksOf (tab (stageFrom f w n (stagesIn file)) n)) (a .codes)
+    pub scales : b .scales ≡ over (scalesOf (tab (stageFrom f w n (stagesIn file)) n)) (a .scales)
     pub keys : b .keys ≡ over (tab (wordFrom (tableIn file) (entryCount file)) n) (a .keys)
     pub keyed : b .keyed ≡ over (tab (onFrom (tableIn file) (entryCount file)) n) (a .keyed)
     pub held : b .held ≡ over (tab (risingPosition (b .keys) (b .keyed)) n) (a .held)
     pub alive : b .alive ≡ over (tab (λ _. 1) n) (a .alive)
-    pub codes2 : b .codes2 ≡ over (blocksOf (tab (stageFrom v w (cond (hasSecond v) n 0) (secondIn file)) (cond (hasSecond v) n 0))) (a .codes2)
-    pub scales2 : b .scales2 ≡ over (scalesOf (tab (stageFrom v w (cond (hasSecond v) n 0) (secondIn file)) (cond (hasSecond v) n 0))) (a .scales2)
+    pub codes2 : b .codes2 ≡ over (blocksOf (tab (stageFrom f w (cond (f .second) n 0) (secondIn file)) (cond (f .second) n 0))) (a .codes2)
+    pub scales2 : b .scales2 ≡ over (scalesOf (tab (stageFrom f w (cond (f .second) n 0) (secondIn file)) (cond (f .second) n 0))) (a .scales2)
 
   -- ---- stages
 
-  firsts : map (λ s. s .code .first) (slotsIn file) ≡ tab (stageFrom v w n (stagesIn file)) n
+  firsts : map (λ s. s .code .first) (slotsIn file) ≡ tab (stageFrom f w n (stagesIn file)) n
   unfolding slotsIn slotIn
   firsts = rising-map (λ s. s .code .first) (λ k p q c. refl) (λ k. 0) loose ∙ map-tab (λ (s : Slot). s .code .first) (slotIn file) n
 
   module _ (shape : AllShaped (headerIn file) (slotsIn file)) where
-    second-stages : seconds (slotsIn file) ≡ tab (stageFrom v w (cond (hasSecond v) n 0) (secondIn file)) (cond (hasSecond v) n 0)
+    second-stages : seconds (slotsIn file) ≡ tab (stageFrom f w (cond (f .second) n 0) (secondIn file)) (cond (f .second) n 0)
     unfolding headerIn slotsIn slotIn
-    second-stages = go (hasSecond v) refl
+    second-stages = go (f .second) refl
       where
-        go : (b : Bool) → hasSecond v ≡ b → seconds (slotsIn file) ≡ tab (stageFrom v w (cond b n 0) (secondIn file)) (cond b n 0)
+        go : (b : Bool) → f .second ≡ b → seconds (slotsIn file) ≡ tab (stageFrom f w (cond b n 0) (secondIn file)) (cond b n 0)
         go true e =
             residual-seconds (headerIn file) e (slotsIn file) shape ∙ rising-map secondOf (λ k p q c. refl) (λ k. 0) loose ∙ map-tab secondOf (slotIn file) n
-            ∙ tab-ext (λ i. secondOf (slotIn file i)) (stageFrom v w n (secondIn file)) n (λ i l. rw e)
+            ∙ tab-ext (λ i. secondOf (slotIn file i)) (stageFrom f w n (secondIn file)) n (λ i l. rw e)
         go false e = plain-seconds (headerIn file) e (slotsIn file) shape
 
   -- ---- keys and marks

@@ -2,5 +2,7 @@
 mod Limits
 mod Faults
 mod Stages
+mod Once
+mod Keys
 mod Filled
 mod Call

@@ -1,39 +1,47 @@
 -- The numbers of a file whose head and limits are sound.
-use mathlib.Core.Path.{_≡_, sym, ap, ap₂, _∙_}
-use mathlib.Core.Bool.{false, cond, _&&_}
+use mathlib.Core.Path.{_≡_, refl, sym, ap, _∙_}
+use mathlib.Core.Logic.{inl, inr, ⊎-elim}
+use mathlib.Core.Bool.{false, cond}
 use mathlib.Core.List.{List}
 use Prim.Native.Nat.{ℕ, _≤_}
 use native.Mathlib.Omega.{arith}
 use lib.Dec.{eqb, leb, ltb}
-use borrow.Author.Tests.{ltb-false, leb-true, le-leb}
+use borrow.Author.Tests.{ltb-false, leb-true}
 use Rattle.lists.proofs.Keep.{either}
 use Rattle.lists.proofs.Front.{map-tab}
 use Rattle.codes.specs.Writing.{atWidth}
 use Rattle.encode.specs.Header.{blockSize}
+use Rattle.index.specs.declared.Form.{Form}
 use Rattle.index.specs.declared.Index.{Index}
 use Rattle.index.specs.Arrays.{Arrays}
 use Rattle.index.specs.State.{headerOf, capacity, recordOf}
-use Rattle.index.specs.Read.{scaleSize, hasSecond, versionIn, dimIn, countIn, workingField, headerIn, headFault, overLimits, stageLength, entryFrom, wellKeyed, firstLength, secondLength, tableIn, entryCount, entriesIn, stateIn}
-use Rattle.index.proofs.Marks.{and-left, and-right}
+use Rattle.index.specs.Form.{formOf, stageSize}
+use Rattle.index.specs.Read.{formIn, dimIn, countIn, workingField, headerIn, headFault, overLimits, entryFrom, wellKeyed, firstLength, secondLength, tableIn, entryCount, entriesIn, stateIn}
+use Rattle.lists.proofs.Tests.{and-left, and-right}
 use Rattle.index.proofs.Kept.{when-none}
 use Rattle.index.proofs.Read.{all-passed, or-none, not-not}
 use Rattle.fit.proofs.Rooms.{in-width}
-use Rattle.key_table.specs.Table.{slotsFrom}
+use Rattle.read.specs.Table.{slotsFrom}
 use Rattle.layout.proofs.Numbers.{small-block}
 use Rattle.read.specs.declared.Sizes.{Sizes}
-use Rattle.read.specs.Parts.{sizesOf, keysSound}
+use Rattle.read.specs.Parts.{isScale, sizesOf, keysSound}
 
-pub scale-low : (v : ℕ) → scaleSize v ≤ 4
-scale-low v = either (λ (s : ℕ). s ≤ 4) (eqb v 1) (omega arith) (omega arith)
+-- every version has scales of 4 bytes or of 2
+pub form-scaled : (v : ℕ) → isScale (formOf v .scale)
+unfolding formOf
+form-scaled v = either (λ (s : ℕ). isScale s) (eqb v 1) (inl refl) (inr refl)
+
+pub scale-low : (s : ℕ) → isScale s → s ≤ 4
+scale-low s h = ⊎-elim (λ (e : s ≡ 4). omega (arith, e)) (λ (e : s ≡ 2). omega (arith, e)) h
 
 pub few-slots : (file : List ℕ) → overLimits file ≡ false → countIn file ≤ 65536
 few-slots file low = ltb-false 65536 (countIn file) (or-none (ltb 4096 (dimIn file)) (ltb 65536 (countIn file)) low .1)
 
 -- each size by itself
 module _ (file : List ℕ) (s : Sizes) (e : s ≡ sizesOf file) where
-  pub version-is : s .version ≡ versionIn file
+  pub form-is : s .form ≡ formIn file
   unfolding sizesOf
-  version-is = ap (λ (t : Sizes). t .version) e
+  form-is = ap (λ (t : Sizes). t .form) e
 
   pub block-size-is : s .block ≡ blockSize (headerIn file)
   unfolding sizesOf
@@ -52,11 +60,11 @@ module _ (file : List ℕ) (s : Sizes) (e : s ≡ sizesOf file) where
   second-is = ap (λ (t : Sizes). t .second) e
 
 -- the key entries' test by the table, the number of entries and that of slots
-pub sound-is : (file table : List ℕ) (k n : ℕ) → overLimits file ≡ false → table ≡ tableIn file → k ≡ entryCount file → n ≡ countIn file →
-    (leb n 65536 && wellKeyed n (slotsFrom table k)) ≡ keysSound file
+pub sound-is : (file table : List ℕ) (k n : ℕ) → table ≡ tableIn file → k ≡ entryCount file → n ≡ countIn file →
+    wellKeyed n (slotsFrom table k) ≡ keysSound file
 unfolding entriesIn slotsFrom
-sound-is file table k n low et ek en =
-    rw (et, ek, en, le-leb (countIn file) 65536 (few-slots file low))
+sound-is file table k n et ek en =
+    rw (et, ek, en)
     (ap (wellKeyed (countIn file)) (sym (map-tab (λ e. e .slot) (entryFrom (tableIn file)) (entryCount file))))
 
 module _ (file : List ℕ) (head : headFault file ≡ 0) where
@@ -64,20 +72,20 @@ module _ (file : List ℕ) (head : headFault file ≡ 0) where
   unfolding headFault
   working-least = ltb-false (dimIn file) (workingField file) (when-none _ 16 (all-passed _ head .1 .1 .1 .0))
 
-  width-least : 4 ≤ headerIn file .width
+  width-least : 4 ≤ headerIn file .bits
   unfolding headFault
-  width-least = leb-true 4 (headerIn file .width) (and-left _ (leb (headerIn file .width) 6) (not-not _ (when-none _ 17 (all-passed _ head .1 .1 .1 .1 .1 .0))))
+  width-least = leb-true 4 (headerIn file .bits) (and-left _ (leb (headerIn file .bits) 6) (not-not _ (when-none _ 17 (all-passed _ head .1 .1 .1 .1 .1 .0))))
 
-  width-most : headerIn file .width ≤ 6
+  width-most : headerIn file .bits ≤ 6
   unfolding headFault
-  width-most = leb-true (headerIn file .width) 6 (and-right (leb 4 (headerIn file .width)) _ (not-not _ (when-none _ 17 (all-passed _ head .1 .1 .1 .1 .1 .0))))
+  width-most = leb-true (headerIn file .bits) 6 (and-right (leb 4 (headerIn file .bits)) _ (not-not _ (when-none _ 17 (all-passed _ head .1 .1 .1 .1 .1 .0))))
 
   -- the crates below give 0 at a width that no code has: here there is none
-  pub at-width : (n : ℕ) → atWidth (headerIn file .width) n ≡ n
-  at-width n = in-width (headerIn file .width) n width-least width-most
+  pub at-width : (n : ℕ) → atWidth (headerIn file .bits) n ≡ n
+  at-width n = in-width (headerIn file .bits) n width-least width-most
 
   module _ (low : overLimits file ≡ false) where
-    working-low : headerIn file .working ≤ 4096
+    working-low : headerIn file .«working_dim» ≤ 4096
     unfolding headerIn
     working-low = go (workingField file) working-least
       where
@@ -94,12 +102,12 @@ module _ (file : List ℕ) (head : headFault file ≡ 0) where
   unfolding recordOf stateIn
   block-is x block e f = f ∙ ap (λ (y : Index). atWidth (y .bits) (blockSize (headerOf y))) e ∙ at-width (blockSize (headerIn file))
 
-  pub sizes-are : (v block n first second : ℕ) → v ≡ versionIn file → block ≡ blockSize (headerIn file) → n ≡ countIn file → first ≡ stageLength v block n →
-      second ≡ cond (hasSecond v) first 0 → _≡_ {A = Sizes} (record { version = v; block = block; n = n; first = first; second = second }) (sizesOf file)
+  pub sizes-are : (f : Form) (block n first second : ℕ) → f ≡ formIn file → block ≡ blockSize (headerIn file) → n ≡ countIn file → first ≡ stageSize f block n →
+      second ≡ cond (f .second) first 0 → _≡_ {A = Sizes} (record { form = f; block = block; n = n; first = first; second = second }) (sizesOf file)
   unfolding sizesOf
-  sizes-are v block n first second ev eb en ef es =
-      let f : first ≡ firstLength file = ef ∙ (λ i. stageLength (ev i) (eb i) (en i)) in
-      λ i. record { version = ev i; block = eb i; n = en i; first = f i; second = (es ∙ ap₂ (λ (u m : ℕ). cond (hasSecond u) m 0) ev f) i }
+  sizes-are f block n first second ef eb en e₁ e₂ =
+      let l : first ≡ firstLength file = e₁ ∙ (λ i. stageSize (ef i) (eb i) (en i)) in
+      λ i. record { form = ef i; block = eb i; n = en i; first = l i; second = (e₂ ∙ (λ j. cond (ef j .second) (l j) 0)) i }
 
   -- the room that the arrays have for the file's slots
   pub room-is : (a : Arrays) (x : Index) (room : ℕ) → x ≡ recordOf (stateIn file) → room ≡ atWidth (x .bits) (capacity (headerOf x) a) → room ≡ capacity (headerIn file) a

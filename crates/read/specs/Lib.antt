@@ -1,2 +1,3 @@
--- What reading takes from a file before it writes.
+-- What reading takes from a file before it writes, and what key entries give.
 pub mod Parts
+pub mod Table

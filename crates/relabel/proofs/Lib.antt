@@ -1,7 +1,5 @@
--- Laws of calls that change marks.
+-- Laws of relabelling.
 mod Tests
 mod Parts
-mod Marked
-mod Replaced
 mod Loops
 mod Accepted

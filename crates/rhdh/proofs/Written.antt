@@ -10,7 +10,7 @@ use lib.Ieee.{Float, binary32}
 use lib.ListN.{length, getD, set}
 use Rattle.lists.specs.Lists.{tab, over}
 use Rattle.lists.proofs.Laws.{length-tab, zip-tab, length-over, over-all, over-more}
-use Rattle.signs.specs.Signs.{start, step, output, sign, state, signAt, signs}
+use Rattle.signs.specs.Signs.{start, nextState, output, sign, state, signAt, signs}
 use Rattle.pattern.specs.Binary32.{+0}
 use Rattle.rhdh.specs.Rotation.{padTo, signed}
 
@@ -39,14 +39,14 @@ module _ (v : List Float) (seed : ℕ) (o out : List Float) (s i : ℕ) (w : Wri
   pub written-length : length out ≡ length o
   written-length = ap length (w .work) ∙ length-over _ o (rw length-tab (w .within))
 
-  pub written-more : (x g : Float) (t : ℕ) → i < length o → x ≡ getD v i +0 → t ≡ step s → g ≡ sign (output (step s))
+  pub written-more : (x g : Float) (t : ℕ) → i < length o → x ≡ getD v i +0 → t ≡ nextState s → g ≡ sign (output (nextState s))
       → Written v seed o (set out i (Ieee.mul binary32 x g)) t (i + 1)
   unfolding signedEntry signAt
   written-more x g t l e f k =
       record {
         within = omega arith;
-        stream = rw (add-one i) (f ∙ ap step (w .stream));
-        work = ap₂ (λ (a : List Float) (b : Float). set a i b) (w .work) (ap₂ (Ieee.mul binary32) e (k ∙ ap (λ (z : ℕ). sign (output (step z))) (w .stream))) ∙ over-more (signedEntry v seed) i o l;
+        stream = rw (add-one i) (f ∙ ap nextState (w .stream));
+        work = ap₂ (λ (a : List Float) (b : Float). set a i b) (w .work) (ap₂ (Ieee.mul binary32) e (k ∙ ap (λ (z : ℕ). sign (output (nextState z))) (w .stream))) ∙ over-more (signedEntry v seed) i o l;
       }
 
   pub written-all : length o ≤ i → out ≡ signed (length o) seed v

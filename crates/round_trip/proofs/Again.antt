@@ -9,8 +9,9 @@ use Rattle.lists.specs.Keep.{Each}
 use Rattle.half.specs.Half.{narrowed}
 use Rattle.codes.specs.Stage.{Stage}
 use Rattle.encode.specs.declared.Header.{Header}
-use Rattle.index.specs.State.{Slot, State, live, joined}
-use Rattle.index.specs.File.{Entry, le, widthByte, headBytes, stageBytes, secondStages, keyEntries, fileOf}
+use Rattle.index.specs.State.{Slot, State, live}
+use Rattle.lists.specs.Lists.{joined}
+use Rattle.index.specs.File.{Entry, leBytes, versionOf, widthByte, headBytes, stageBytes, secondStages, keyEntries, fileOf}
 use Rattle.index.specs.Step.{liveFrom, keyOfMark, entryOf, fileBytes}
 use Rattle.index.specs.Read.{markFrom, slotsIn, stateIn}
 use Rattle.index.proofs.Read.{read-live}
@@ -28,7 +29,7 @@ halvedEntry e = record { code = halvedCode (e .code); key = e .key }
 stage-again : (gs : List Stage) → stageBytes (map halved gs) ≡ stageBytes gs
 stage-again gs =
     ap₂ (λ (ss bs : List (List ℕ)). joined ss ++ joined bs)
-    (map-map (λ (g : Stage). le 2 (narrowed (g .scale))) halved gs ∙ (λ i. map (λ (g : Stage). le 2 (narrow-again (g .scale) i)) gs))
+    (map-map (λ (g : Stage). leBytes 2 (narrowed (g .scale))) halved gs ∙ (λ i. map (λ (g : Stage). leBytes 2 (narrow-again (g .scale) i)) gs))
     (map-map (λ (g : Stage). g .block) halved gs)
 
 seconds-again : (es : List Entry) → secondStages (map halvedEntry es) ≡ map halved (secondStages es)
@@ -49,7 +50,11 @@ keys-again i (e ∷ es) = go (e .key) (keys-again (suc i) es)
     go : (o : Option ℕ) → keyEntries (suc i) (map halvedEntry es) ≡ keyEntries (suc i) es →
         keyEntries i (record { code = halvedCode (e .code); key = o } ∷ map halvedEntry es) ≡ keyEntries i (record { code = e .code; key = o } ∷ es)
     go none ih = ih
-    go (some k) ih = ap (λ (bs : List (List ℕ)). (le 4 i ++ le 8 k) ∷ bs) ih
+    go (some k) ih = ap (λ (bs : List (List ℕ)). (leBytes 4 i ++ leBytes 8 k) ∷ bs) ih
+
+version-again : (h : Header) (es : List Entry) → versionOf h (map halvedEntry es) ≡ versionOf h es
+unfolding versionOf
+version-again h es = refl
 
 file-again : (h : Header) (es : List Entry) → fileOf h (map halvedEntry es) ≡ fileOf h es
 unfolding fileOf
@@ -59,7 +64,7 @@ file-again h es =
     ap stageBytes (map-map (λ (e : Entry). e .code .first) halvedEntry es ∙ sym (map-map halved (λ (e : Entry). e .code .first) es)) ∙ stage-again (map (λ e. e .code .first) es) in
     let seconds : stageBytes (secondStages (map halvedEntry es)) ≡ stageBytes (secondStages es) = ap stageBytes (seconds-again es) ∙ stage-again (secondStages es) in
     let keys = keys-again 0 es in
-    λ i. headBytes h (n i) ++ widthByte h ++ firsts i ++ seconds i ++ le 4 (length (keys i)) ++ joined (keys i)
+    λ i. headBytes (version-again h es i) h (n i) ++ widthByte (version-again h es i) h ++ firsts i ++ seconds i ++ leBytes 4 (length (keys i)) ++ joined (keys i)
 
 -- ---- the entries of the slots that are read
 

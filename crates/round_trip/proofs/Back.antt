@@ -9,8 +9,8 @@ use lib.ListN.{length, drop, getD, length-drop, length-map, List·getD-map}
 use lib.Seq.{drop-at}
 use lib.Dec.{eqb}
 use borrow.Author.Tests.{le-ltb, ne-eqb}
-use Rattle.lists.specs.Lists.{tab}
-use Rattle.lists.specs.Keep.{bit, Each}
+use Rattle.lists.specs.Lists.{tab, joined}
+use Rattle.lists.specs.Keep.{Each}
 use Rattle.lists.proofs.Keep.{each-weaken, count-length}
 use Rattle.lists.proofs.Front.{tab-map, each-map, each-at}
 use Rattle.half.specs.Half.{narrowed}
@@ -18,17 +18,18 @@ use Rattle.codes.specs.Stage.{Stage}
 use Rattle.encode.specs.declared.Header.{Header}
 use Rattle.encode.specs.Header.{blockSize}
 use Rattle.index.specs.Arrays.{Arrays}
-use Rattle.index.specs.State.{capacity, joined}
+use Rattle.index.specs.State.{capacity}
 use Rattle.index.specs.Fit.{between}
 use Rattle.index.specs.Step.{firstOf, rising}
-use Rattle.index.specs.File.{Entry, le, magic, versionOf, stageBytes, secondStages, keyEntries, fileOf}
+use Rattle.index.specs.declared.Form.{Form}
+use Rattle.index.specs.Form.{stagesAt, secondAt, keysAt, endAt}
+use Rattle.index.specs.File.{Entry, leBytes, magic, stageBytes, secondStages, keyEntries, fileOf}
 use Rattle.index.specs.Sound.{Shaped, blockLength}
-use Rattle.index.specs.Read.{known, hasWidth, hasSecond, hasKeys, littleEndian, versionIn, dimIn, countIn, workingField, headerIn, headFault, overLimits, stageFrom, KeyEntry, entryFrom, wellKeyed, keyFrom, markFrom, firstLength, secondLength, stagesIn, secondIn, tableIn, entryCount, tableLength, entriesIn, slotIn, slotsIn, stateIn, readRefusal}
-use Rattle.layout.specs.Layout.{formOf, stagesAt, secondAt, keysAt, endAt}
-use Rattle.layout.proofs.Length.{hasOne, keyed-count, file-length, toStages, toSecond, toKeys, stages-begin, second-begins, keys-begin}
+use Rattle.index.specs.Read.{littleEndian, formIn, dimIn, countIn, workingField, headerIn, headFault, overLimits, stageFrom, KeyEntry, entryFrom, wellKeyed, keyFrom, markFrom, firstLength, secondLength, stagesIn, secondIn, tableIn, entryCount, tableLength, statedEnd, entriesIn, slotIn, slotsIn, stateIn, readRefusal}
+use Rattle.index.proofs.Read.{second-at, table-at}
+use Rattle.layout.proofs.Length.{hasOne, keyed-count, form, form-scale, form-keys, form-known, form-second, file-length, toStages, toSecond, toKeys, stages-begin, second-begins, keys-begin}
 use Rattle.round_trip.specs.Back.{halved, halvedIf, readBack, patternLow, keyLow, Holdable, Writable}
-use Rattle.round_trip.proofs.End.{statedEnd, second-at, table-at}
-use Rattle.round_trip.proofs.Fields.{le-back, version-back, count-back, dim-least, dim-most, dim-back, field-low, field-back, header-back}
+use Rattle.round_trip.proofs.Fields.{le-back, form-back, count-back, dim-least, dim-most, dim-back, field-low, field-back, header-back}
 use Rattle.round_trip.proofs.Stages.{stage-at}
 use Rattle.round_trip.proofs.Keys.{pairs, slotsOf, entries-are, pairs-low, well-back, key-back, table-back}
 use Rattle.round_trip.proofs.Halves.{half-low}
@@ -79,8 +80,11 @@ module _ (h : Header) (es : List Entry) (t : Writable h es) where
   shapes : Each (λ e. Shaped h (e .code)) es
   shapes = each-weaken (Holdable h) (λ e. Shaped h (e .code)) es (λ e s. s .shape) (t .entries)
 
-  ev : versionIn file ≡ versionOf h
-  ev = version-back h es
+  abbrev f : Form
+  f = form h es
+
+  ef : formIn file ≡ f
+  ef = form-back h es
 
   eh : headerIn file ≡ h
   eh = header-back h es (t .header) (t .seed)
@@ -97,11 +101,11 @@ module _ (h : Header) (es : List Entry) (t : Writable h es) where
   -- ---- the parts of the file
 
   abbrev table : List ℕ
-  table = le 4 keyCount ++ joined (keyEntries 0 es)
+  table = leBytes 4 keyCount ++ joined (keyEntries 0 es)
 
   to-keys : file ≡ toKeys h es shapes ++ table
   unfolding fileOf
-  to-keys = append-assoc (toKeys h es shapes) (le 4 keyCount) (joined (keyEntries 0 es))
+  to-keys = append-assoc (toKeys h es shapes) (leBytes 4 keyCount) (joined (keyEntries 0 es))
 
   to-second : file ≡ toSecond h es shapes ++ (stageBytes (secondStages es) ++ table)
   to-second = to-keys ∙ append-assoc (toSecond h es shapes) (stageBytes (secondStages es)) table
@@ -110,62 +114,45 @@ module _ (h : Header) (es : List Entry) (t : Writable h es) where
   to-stages = to-second ∙ append-assoc (toStages h es shapes) (stageBytes firsts) (stageBytes (secondStages es) ++ table)
 
   stages-are : stagesIn file ≡ stageBytes firsts ++ (stageBytes (secondStages es) ++ table)
-  unfolding formOf
   stages-are =
-      ap (λ (v : ℕ). drop (stagesAt (formOf v)) file) ev ∙ ap (drop (stagesAt (formOf (versionOf h)))) to-stages
-      ∙ drop-at (toStages h es shapes) (stageBytes firsts ++ (stageBytes (secondStages es) ++ table)) (stagesAt (formOf (versionOf h))) (stages-begin h es shapes)
+      ap (λ (g : Form). drop (stagesAt g) file) ef ∙ ap (drop (stagesAt f)) to-stages
+      ∙ drop-at (toStages h es shapes) (stageBytes firsts ++ (stageBytes (secondStages es) ++ table)) (stagesAt f) (stages-begin h es shapes)
 
   seconds-are : secondIn file ≡ stageBytes (secondStages es) ++ table
   seconds-are =
-      second-at file ∙ (λ i. drop (secondAt (formOf (ev i)) (ew i) (en i)) (to-second i))
-      ∙ drop-at (toSecond h es shapes) (stageBytes (secondStages es) ++ table) (secondAt (formOf (versionOf h)) w n) (second-begins h es shapes)
+      second-at file ∙ (λ i. drop (secondAt (ef i) (ew i) (en i)) (to-second i))
+      ∙ drop-at (toSecond h es shapes) (stageBytes (secondStages es) ++ table) (secondAt f w n) (second-begins h es shapes)
 
   table-is : tableIn file ≡ table
   table-is =
-      table-at file ∙ (λ i. drop (keysAt (formOf (ev i)) (ew i) (en i)) (to-keys i))
-      ∙ drop-at (toKeys h es shapes) table (keysAt (formOf (versionOf h)) w n) (keys-begin h es shapes)
+      table-at file ∙ (λ i. drop (keysAt (ef i) (ew i) (en i)) (to-keys i))
+      ∙ drop-at (toKeys h es shapes) table (keysAt f w n) (keys-begin h es shapes)
 
   -- ---- stages
 
-  halves : eqb (versionOf h) 1 ≡ false
-  halves = go (h .residual) (eqb (h .width) 4)
-    where
-      go : (b c : Bool) → eqb (cond b 260 (cond c 259 261)) 1 ≡ false
-      go true c = refl
-      go false true = refl
-      go false false = refl
+  stage-back : (of : Entry → Stage) (rest : List ℕ) → Each (λ e. (length (of e .block) ≡ w) × (of e .scale < 2 ^ 32)) es → (i : ℕ) (d : Entry) → i < n →
+      stageFrom f w n (stageBytes (map of es) ++ rest) i ≡ halved (of (getD es i d))
+  stage-back of rest s i d l =
+      ap (λ (m : ℕ). stageFrom f w m (stageBytes (map of es) ++ rest) i) (sym (length-map es of))
+      ∙ stage-at w (map of es) rest
+      (each-map (λ g. length (g .block) ≡ w) of es (each-weaken (λ e. (length (of e .block) ≡ w) × (of e .scale < 2 ^ 32)) (λ e. length (of e .block) ≡ w) es (λ e q. q .0) s))
+      (each-map (λ g. narrowed (g .scale) < 256 ^ 2) of es
+      (each-weaken (λ e. (length (of e .block) ≡ w) × (of e .scale < 2 ^ 32)) (λ e. narrowed (of e .scale) < 256 ^ 2) es (λ e q. half-low (of e .scale) (q .1)) s))
+      f (form-scale h es) i (of d) (rw (length-map es of) l)
+      ∙ ap halved (List·getD-map of es i d)
 
-  stage-back : (f : Entry → Stage) (rest : List ℕ) → Each (λ e. (length (f e .block) ≡ w) × (f e .scale < 2 ^ 32)) es → (i : ℕ) (d : Entry) → i < n →
-      stageFrom (versionOf h) w n (stageBytes (map f es) ++ rest) i ≡ halved (f (getD es i d))
-  stage-back f rest s i d l =
-      ap (λ (m : ℕ). stageFrom (versionOf h) w m (stageBytes (map f es) ++ rest) i) (sym (length-map es f))
-      ∙ stage-at w (map f es) rest
-      (each-map (λ g. length (g .block) ≡ w) f es (each-weaken (λ e. (length (f e .block) ≡ w) × (f e .scale < 2 ^ 32)) (λ e. length (f e .block) ≡ w) es (λ e q. q .0) s))
-      (each-map (λ g. narrowed (g .scale) < 256 ^ 2) f es
-      (each-weaken (λ e. (length (f e .block) ≡ w) × (f e .scale < 2 ^ 32)) (λ e. narrowed (f e .scale) < 256 ^ 2) es (λ e q. half-low (f e .scale) (q .1)) s))
-      (versionOf h) halves i (f d) (rw (length-map es f) l)
-      ∙ ap halved (List·getD-map f es i d)
-
-  first-back : (i : ℕ) (d : Entry) → i < n → stageFrom (versionIn file) (blockSize (headerIn file)) (countIn file) (stagesIn file) i ≡ halved (getD es i d .code .first)
+  first-back : (i : ℕ) (d : Entry) → i < n → stageFrom (formIn file) (blockSize (headerIn file)) (countIn file) (stagesIn file) i ≡ halved (getD es i d .code .first)
   first-back i d l =
-      (λ j. stageFrom (ev j) (ew j) (en j) (stages-are j) i)
+      (λ j. stageFrom (ef j) (ew j) (en j) (stages-are j) i)
       ∙ stage-back (λ e. e .code .first) (stageBytes (secondStages es) ++ table)
       (each-weaken (Holdable h) (λ e. (length (e .code .first .block) ≡ w) × (e .code .first .scale < 2 ^ 32)) es (λ e s. (s .shape .first, s .scale)) (t .entries)) i d l
 
   second-back : (i : ℕ) (d : Entry) → i < n →
-      cond (hasSecond (versionIn file)) (some (stageFrom (versionIn file) (blockSize (headerIn file)) (countIn file) (secondIn file) i)) none ≡ halvedIf (getD es i d .code .second)
+      cond (formIn file .second) (some (stageFrom (formIn file) (blockSize (headerIn file)) (countIn file) (secondIn file) i)) none ≡ halvedIf (getD es i d .code .second)
   second-back i d l =
-      (λ j. cond (hasSecond (ev j)) (some (stageFrom (ev j) (ew j) (en j) (seconds-are j) i)) none) ∙ ap (λ (b : Bool). cond b (some (stageFrom (versionOf h) w n (stageBytes (secondStages es) ++ table) i)) none) residual-is
+      (λ j. cond (ef j .second) (some (stageFrom (ef j) (ew j) (en j) (seconds-are j) i)) none) ∙ ap (λ (b : Bool). cond b (some (stageFrom f w n (stageBytes (secondStages es) ++ table) i)) none) (form-second h es)
       ∙ go (h .residual) refl
     where
-      residual-is : hasSecond (versionOf h) ≡ h .residual
-      residual-is = kind (h .residual) (eqb (h .width) 4)
-        where
-          kind : (b c : Bool) → hasSecond (cond b 260 (cond c 259 261)) ≡ b
-          kind true c = refl
-          kind false true = refl
-          kind false false = refl
-
       shape : Shaped h (getD es i d .code)
       shape = each-at (λ e. Shaped h (e .code)) es i d shapes l
 
@@ -173,10 +160,10 @@ module _ (h : Header) (es : List Entry) (t : Writable h es) where
       low e none p q = absurd (let z : _≡_ {A = ℕ} 0 1 = cc in omega arith)
       low e (some g) p q = q
 
-      go : (b : Bool) → h .residual ≡ b → cond b (some (stageFrom (versionOf h) w n (stageBytes (secondStages es) ++ table) i)) none ≡ halvedIf (getD es i d .code .second)
+      go : (b : Bool) → h .residual ≡ b → cond b (some (stageFrom f w n (stageBytes (secondStages es) ++ table) i)) none ≡ halvedIf (getD es i d .code .second)
       go true r =
           ap some
-          (ap (λ (gs : List Stage). stageFrom (versionOf h) w n (stageBytes gs ++ table) i) (all-seconds h r es shapes)
+          (ap (λ (gs : List Stage). stageFrom f w n (stageBytes gs ++ table) i) (all-seconds h r es shapes)
           ∙ stage-back secondOf table
           (each-weaken (Holdable h) (λ e. (length (secondOf e .block) ≡ w) × (secondOf e .scale < 2 ^ 32)) es
           (λ e s. (has-second h r e (s .shape) .1, low e (e .code .second) (has-second h r e (s .shape) .0) (s .scale2))) (t .entries)) i d l)
@@ -185,17 +172,9 @@ module _ (h : Header) (es : List Entry) (t : Writable h es) where
 
   -- ---- keys
 
-  has-keys : hasKeys (versionOf h) ≡ true
-  has-keys = go (h .residual) (eqb (h .width) 4)
-    where
-      go : (b c : Bool) → hasKeys (cond b 260 (cond c 259 261)) ≡ true
-      go true c = refl
-      go false true = refl
-      go false false = refl
-
   entry-count : entryCount file ≡ keyCount
   entry-count =
-      ap₂ (λ (v : ℕ) (bs : List ℕ). cond (hasKeys v) (littleEndian 4 bs) 0) ev table-is ∙ ap (λ (b : Bool). cond b (littleEndian 4 table) 0) has-keys
+      ap₂ (λ (g : Form) (bs : List ℕ). cond (g .keys) (littleEndian 4 bs) 0) ef table-is ∙ ap (λ (b : Bool). cond b (littleEndian 4 table) 0) (form-keys h es)
       ∙ le-back 4 keyCount (joined (keyEntries 0 es)) (omega (arith, few-keys, t .few))
 
   key-low : Each (λ e. keyLow (e .key)) es
@@ -204,8 +183,8 @@ module _ (h : Header) (es : List Entry) (t : Writable h es) where
   entries-back : entriesIn file ≡ pairs 0 es
   unfolding entriesIn
   entries-back =
-      ap₂ (λ (bs : List ℕ) (k : ℕ). tab (entryFrom bs) k) (table-is ∙ ap (λ (bs : List (List ℕ)). le 4 keyCount ++ joined bs) (entries-are 0 es))
-      (entry-count ∙ ap length (entries-are 0 es) ∙ length-map (pairs 0 es) (λ (p : KeyEntry). le 4 (p .slot) ++ le 8 (p .key)))
+      ap₂ (λ (bs : List ℕ) (k : ℕ). tab (entryFrom bs) k) (table-is ∙ ap (λ (bs : List (List ℕ)). leBytes 4 keyCount ++ joined bs) (entries-are 0 es))
+      (entry-count ∙ ap length (entries-are 0 es) ∙ length-map (pairs 0 es) (λ (p : KeyEntry). leBytes 4 (p .slot) ++ leBytes 8 (p .key)))
       ∙ table-back keyCount (pairs 0 es) (pairs-low 0 es (omega (arith, t .few)) key-low)
 
   -- ---- slots
@@ -231,24 +210,19 @@ module _ (h : Header) (es : List Entry) (t : Writable h es) where
 
   end-is : statedEnd file ≡ length file
   end-is =
-      (λ i. endAt (formOf (ev i)) (ew i) (en i) (entry-count i)) ∙ ap (endAt (formOf (versionOf h)) w n) (keyed-count 0 es) ∙ sym (file-length h es shapes)
+      (λ i. endAt (ef i) (ew i) (en i) (entry-count i)) ∙ ap (endAt f w n) (keyed-count 0 es) ∙ sym (file-length h es shapes)
 
   -- the blocks end where the file does
-  all-there : 24 + bit (hasWidth (versionIn file)) + firstLength file + secondLength file + tableLength file ≡ length file
-  unfolding formOf endAt
+  all-there : stagesAt (formIn file) + firstLength file + secondLength file + tableLength file ≡ length file
+  unfolding endAt
   all-there = end-is
 
   named : eqb (littleEndian 4 file) (littleEndian 4 magic) ≡ true
   unfolding fileOf littleEndian
   named = refl
 
-  version-known : known (versionIn file) ≡ true
-  version-known = ap known ev ∙ go (h .residual) (eqb (h .width) 4)
-    where
-      go : (b c : Bool) → known (cond b 260 (cond c 259 261)) ≡ true
-      go true c = refl
-      go false true = refl
-      go false false = refl
+  version-known : formIn file .known ≡ true
+  version-known = ap (λ (g : Form). g .known) ef ∙ form-known h es
 
   dim-is : dimIn file ≡ h .dim
   dim-is = dim-back h es (t .header)
@@ -261,8 +235,8 @@ module _ (h : Header) (es : List Entry) (t : Writable h es) where
         named,
         version-known,
         le-ltb (dimIn file) (workingField file) (omega (arith, dim-is, field-back h es (t .header), field-low h es (t .header))),
-        le-ltb (length file) (24 + bit (hasWidth (versionIn file))) (omega (arith, all-there)),
-        ap (λ (g : Header). between 4 6 (g .width)) eh ∙ t .header .width,
+        le-ltb (length file) (stagesAt (formIn file)) (omega (arith, all-there)),
+        ap (λ (g : Header). between 4 6 (g .bits)) eh ∙ t .header .bits,
       )
 
   limits-back : overLimits file ≡ false
@@ -276,7 +250,7 @@ module _ (h : Header) (es : List Entry) (t : Writable h es) where
   pub accepted-back : (a : Arrays) → n ≤ capacity h a → readRefusal file a ≡ 0
   unfolding readRefusal firstOf
   accepted-back a space =
-      let first = length-drop (24 + bit (hasWidth (versionIn file))) file in
+      let first = length-drop (stagesAt (formIn file)) file in
       let second = length-drop (firstLength file) (stagesIn file) in
       let third = length-drop (secondLength file) (secondIn file) in
       rw (

@@ -4,7 +4,7 @@ use mathlib.Core.Bool.{false}
 use mathlib.Core.List.{List, [], _∷_, map}
 use Prim.Native.Nat.{ℕ, suc}
 use Rattle.lists.specs.Keep.{keep}
-use Rattle.index.specs.State.{Mark, dead, unkeyed, keyed, Slot, State, live}
+use Rattle.index.specs.State.{Mark, dead, unkeyed, keyed, Slot, State, live, withMark}
 use Rattle.index.specs.Step.{liveFrom, entryOf, fileBytes, oneMore, rising, compacted}
 use Rattle.index.specs.Read.{stateIn}
 use Rattle.round_trip.specs.Back.{readBack, tidied, Writable}
@@ -16,7 +16,7 @@ tidied-rising seen i [] = refl
 tidied-rising seen i (s ∷ ss) = go (s .mark) (λ next. tidied-rising next (suc i) ss)
   where
     go : (m : Mark) → ((next : ℕ → ℕ) → rising next (map readBack (map entryOf (liveFrom (suc i) ss))) ≡ map tidied (rising next (keep live ss))) →
-        rising seen (map readBack (map entryOf (liveFrom i (record { mark = m; code = s .code } ∷ ss)))) ≡ map tidied (rising seen (keep live (record { mark = m; code = s .code } ∷ ss)))
+        rising seen (map readBack (map entryOf (liveFrom i (withMark s m ∷ ss)))) ≡ map tidied (rising seen (keep live (withMark s m ∷ ss)))
     go (dead u) ih = ih seen
     go (unkeyed u) ih = rw (ih seen)
     go (keyed k p) ih = rw (ih (oneMore k seen))

@@ -9,13 +9,12 @@ use lib.ListN.{length, take, drop, getD, length-map, List·getD-map}
 use lib.Seq.{take-take, drop-drop}
 use lib.Dec.{ltb, eqb}
 use borrow.Author.Tests.{lt-ltb, eq-eqb, eqb-true, ne-eqb}
-use Rattle.lists.specs.Lists.{tab}
+use Rattle.lists.specs.Lists.{tab, joined}
 use Rattle.lists.specs.Keep.{bit, count, Each}
 use Rattle.lists.proofs.Keep.{each-weaken, each-mem}
 use Rattle.lists.proofs.Front.{tab-is, each-map, each-at}
 use Rattle.digits.specs.Digits.{number}
-use Rattle.index.specs.State.{joined}
-use Rattle.index.specs.File.{Entry, le, keyEntries}
+use Rattle.index.specs.File.{Entry, leBytes, keyEntries}
 use Rattle.index.specs.Read.{littleEndian, KeyEntry, entryFrom, wellKeyed, keyFrom}
 use Rattle.index.proofs.Fits.{each-all}
 use Rattle.round_trip.specs.Back.{keyLow}
@@ -28,7 +27,7 @@ pairs i [] = []
 pairs i (e ∷ es) = elim (e .key) [ none ↦ pairs (suc i) es | some k ↦ record { slot = i; key = k } ∷ pairs (suc i) es ]
 
 abbrev entryBytes : KeyEntry → List ℕ
-entryBytes p = le 4 (p .slot) ++ le 8 (p .key)
+entryBytes p = leBytes 4 (p .slot) ++ leBytes 8 (p .key)
 
 abbrev pub slotsOf : List KeyEntry → List ℕ
 slotsOf ps = map (λ p. p .slot) ps
@@ -41,7 +40,7 @@ entries-are i (e ∷ es) = go (e .key) (entries-are (suc i) es)
     go : (o : Option ℕ) → keyEntries (suc i) es ≡ map entryBytes (pairs (suc i) es) →
         keyEntries i (record { code = e .code; key = o } ∷ es) ≡ map entryBytes (pairs i (record { code = e .code; key = o } ∷ es))
     go none ih = ih
-    go (some k) ih = ap (λ (bs : List (List ℕ)). (le 4 i ++ le 8 k) ∷ bs) ih
+    go (some k) ih = ap (λ (bs : List (List ℕ)). (leBytes 4 i ++ leBytes 8 k) ∷ bs) ih
 
 -- ---- slots rise from i on
 
@@ -151,7 +150,7 @@ key-back j es d l = let z : j ≡ 0 + j = omega arith in ap (keyFrom (pairs 0 es
 
 module _ (k : ℕ) (ps : List KeyEntry) (low : Each (λ p. (p .slot < 256 ^ 4) × (p .key < 256 ^ 8)) ps) where
   abbrev table : List ℕ
-  table = le 4 k ++ joined (map entryBytes ps)
+  table = leBytes 4 k ++ joined (map entryBytes ps)
 
   cut-at : (i : ℕ) (d : KeyEntry) → i < length ps → take 12 (drop (4 + i * 12) table) ≡ entryBytes (getD ps i d)
   cut-at i d l =
@@ -166,7 +165,7 @@ module _ (k : ℕ) (ps : List KeyEntry) (low : Each (λ p. (p .slot < 256 ^ 4) �
       let p : KeyEntry = getD ps i d in
       let fits = each-at (λ p. (p .slot < 256 ^ 4) × (p .key < 256 ^ 8)) ps i d low l in
       let slot : littleEndian 4 (drop (4 + i * 12) table) ≡ p .slot =
-      ap (number 256) (sym (take-take 4 12 (drop (4 + i * 12) table) (omega arith)) ∙ ap (take 4) (cut-at i d l)) ∙ le-back 4 (p .slot) (le 8 (p .key)) (fits .0) in
+      ap (number 256) (sym (take-take 4 12 (drop (4 + i * 12) table) (omega arith)) ∙ ap (take 4) (cut-at i d l)) ∙ le-back 4 (p .slot) (leBytes 8 (p .key)) (fits .0) in
       let key : littleEndian 8 (drop (8 + i * 12) table) ≡ p .key =
       ap (number 256) (key-part i ∙ ap (drop 4) (cut-at i d l)) ∙ le-back 8 (p .key) [] (fits .1) in
       λ j. record { slot = slot j; key = key j }

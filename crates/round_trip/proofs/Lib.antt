@@ -1,6 +1,5 @@
 -- Laws of reading and writing together.
 pub mod Agree
-pub mod End
 pub mod Fields
 mod Halves
 mod Stages

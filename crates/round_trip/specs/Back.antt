@@ -8,7 +8,7 @@ use Rattle.half.specs.Half.{narrowed, widened}
 use Rattle.codes.specs.Stage.{Stage}
 use Rattle.encode.specs.declared.Header.{Header}
 use Rattle.encode.specs.Coded.{Code}
-use Rattle.index.specs.State.{dead, unkeyed, keyed, Slot}
+use Rattle.index.specs.State.{dead, unkeyed, keyed, Slot, newSlot}
 use Rattle.index.specs.File.{Entry}
 use Rattle.index.specs.Sound.{Shaped, Ranged}
 use Rattle.index.specs.Read.{markFrom}
@@ -25,11 +25,11 @@ halvedCode c = record { first = halved (c .first); second = halvedIf (c .second)
 
 -- a slot that is read, before positions rise: its key is that of the entry written
 abbrev pub readBack : Entry → Slot
-readBack e = record { mark = markFrom (e .key); code = halvedCode (e .code) }
+readBack e = newSlot (markFrom (e .key)) (halvedCode (e .code))
 
 -- The same of a slot that a compaction leaves: the word that stood in `keys` without a key is 0 now.
 abbrev pub tidied : Slot → Slot
-tidied s = record { mark = elim (s .mark) [ dead u ↦ dead u | unkeyed u ↦ unkeyed 0 | keyed k p ↦ keyed k p ]; code = halvedCode (s .code) }
+tidied s = newSlot (elim (s .mark) [ dead u ↦ dead u | unkeyed u ↦ unkeyed 0 | keyed k p ↦ keyed k p ]) (halvedCode (s .code))
 
 -- ---- what has a byte form: numbers that their fields hold
 

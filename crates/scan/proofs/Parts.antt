@@ -13,7 +13,7 @@ use lib.Dec.{T}
 use lib.ListN.{length, take, drop, getD, set, length-take, length-drop}
 use lib.Seq.{sets, sets-eq, length-sets, take-at, drop-at, length-take-le, ext-getD, getD-take, getD-drop, getD-set-other}
 use lib.Ieee.{Float, nan}
-use Rattle.scan.specs.Scan.{marked}
+use Rattle.scan.specs.Scan.{takesPart}
 use Rattle.scan.specs.Groups.{partAt, Summed}
 
 -- a place in one part is in no other
@@ -57,7 +57,7 @@ module _ (m : ℕ) (lanesOf : ℕ → List Float) (marks : List ℕ) (first many
   summed-none sums = record { each = λ k l. absurd (omega arith) }
 
   module _ (s : ℕ) (sums : List Float) (h : Sums s sums) where
-    pub summed-skip : marked marks (first + s) ≡ false → Sums (s + 1) sums
+    pub summed-skip : takesPart marks (first + s) ≡ false → Sums (s + 1) sums
     summed-skip e = record { each = below-more _ _ (h .each) (λ l t. absurd (subst T (sym t ∙ e) tt)) }
 
     pub summed-put : length (lanesOf (first + s)) ≡ m → s * m + m ≤ length sums → Sums (s + 1) (sets sums (s * m) (lanesOf (first + s)))
@@ -69,10 +69,10 @@ module _ (m : ℕ) (lanesOf : ℕ → List Float) (marks : List ℕ) (first many
         }
 
     pub summed-more : (next : List Float) → length (lanesOf (first + s)) ≡ m → s * m + m ≤ length sums
-        → next ≡ cond (marked marks (first + s)) (sets sums (s * m) (lanesOf (first + s))) sums → Sums (s + 1) next
-    summed-more next size room e = go (marked marks (first + s)) refl e
+        → next ≡ cond (takesPart marks (first + s)) (sets sums (s * m) (lanesOf (first + s))) sums → Sums (s + 1) next
+    summed-more next size room e = go (takesPart marks (first + s)) refl e
       where
-        go : (b : Bool) → marked marks (first + s) ≡ b → next ≡ cond b (sets sums (s * m) (lanesOf (first + s))) sums → Sums (s + 1) next
+        go : (b : Bool) → takesPart marks (first + s) ≡ b → next ≡ cond b (sets sums (s * m) (lanesOf (first + s))) sums → Sums (s + 1) next
         go true t f = rw f (summed-put size room)
         go false t f = rw f (summed-skip t)
 
@@ -81,14 +81,14 @@ module _ (m : ℕ) (lanesOf : ℕ → List Float) (marks : List ℕ) (first many
     two-more : s + 1 + 1 ≡ s + 2
     two-more = omega arith
 
-    pub summed-skip-two : marked marks (first + s) ≡ false → marked marks (first + next) ≡ false → Sums (s + 2) sums
+    pub summed-skip-two : takesPart marks (first + s) ≡ false → takesPart marks (first + next) ≡ false → Sums (s + 2) sums
     summed-skip-two e f =
         record {
           each =
               rw two-more at
-              (below-more (λ k. k < many → marked marks (first + k) ≡ true → partAt m k sums ≡ lanesOf (first + k)) (s + 1)
+              (below-more (λ k. k < many → takesPart marks (first + k) ≡ true → partAt m k sums ≡ lanesOf (first + k)) (s + 1)
               (summed-skip s sums h e .each)
-              (λ l t. absurd (subst T (sym t ∙ ap (λ (k : ℕ). marked marks (first + k)) (sym (neighbour l)) ∙ f) tt)));
+              (λ l t. absurd (subst T (sym t ∙ ap (λ (k : ℕ). takesPart marks (first + k)) (sym (neighbour l)) ∙ f) tt)));
         }
 
     pub summed-put-two : ((i : ℕ) → length (lanesOf i) ≡ m) → s * m + m ≤ length sums → next * m + m ≤ length sums
@@ -109,11 +109,11 @@ module _ (m : ℕ) (lanesOf : ℕ → List Float) (marks : List ℕ) (first many
         within k l p n = ⊎-elim (λ e. absurd (n (e ∙ sym (neighbour (omega arith))))) (λ q. q) (eq-or-lt-of-le (omega arith))
 
     pub summed-two : (after : List Float) → ((i : ℕ) → length (lanesOf i) ≡ m) → s * m + m ≤ length sums → next * m + m ≤ length sums
-        → after ≡ cond (marked marks (first + s) || marked marks (first + next)) (sets (sets sums (s * m) (lanesOf (first + s))) (next * m) (lanesOf (first + next))) sums
+        → after ≡ cond (takesPart marks (first + s) || takesPart marks (first + next)) (sets (sets sums (s * m) (lanesOf (first + s))) (next * m) (lanesOf (first + next))) sums
         → Sums (s + 2) after
-    summed-two after size room room2 e = go (marked marks (first + s)) (marked marks (first + next)) refl refl e
+    summed-two after size room room2 e = go (takesPart marks (first + s)) (takesPart marks (first + next)) refl refl e
       where
-        go : (b d : Bool) → marked marks (first + s) ≡ b → marked marks (first + next) ≡ d
+        go : (b d : Bool) → takesPart marks (first + s) ≡ b → takesPart marks (first + next) ≡ d
             → after ≡ cond (b || d) (sets (sets sums (s * m) (lanesOf (first + s))) (next * m) (lanesOf (first + next))) sums → Sums (s + 2) after
         go true d t u f = rw f (summed-put-two size room room2)
         go false true t u f = rw f (summed-put-two size room room2)

@@ -9,7 +9,7 @@ use lib.Dec.{eqb}
 use lib.ListN.{length, take, drop, getD}
 use lib.Seq.{take-length, drop-length}
 use lib.Ieee.{Float, binary32, ofBits}
-use Rattle.pattern.specs.Binary32.{_⊕_, _⊗_, +0, sumFrom, sum}
+use Rattle.pattern.specs.Binary32.{_⊕_, _⊗_, +0, sumFrom, sumOf}
 use Rattle.lists.specs.Lists.{tab}
 use Rattle.digits.specs.Digits.{Below}
 use Rattle.digits.proofs.Below.{below-take, below-drop}
@@ -18,9 +18,9 @@ use Rattle.codes.proofs.Slots.{block-there, length-block}
 use Rattle.score.specs.Lanes.{bracketed}
 use Rattle.score.specs.Score.{byteSums, indexSums, rawSums, blockProducts, byteTerms, fitting, ofBlock, rawOfBlock, stageScore}
 use Rattle.score.proofs.Products.{length-terms}
-use Rattle.scan.specs.Scan.{marked, stageOf, entry}
+use Rattle.scan.specs.Scan.{takesPart, stageOf, scoreNow}
 use Rattle.scan.specs.Pairs.{Paired, Halved, byteTerm}
-use Rattle.scan.specs.Groups.{partAt, byteLanes, wideLanes, rawBy, scoreBy, rawFrom, Summed, Raw, Changed, Grouped}
+use Rattle.scan.specs.Groups.{partAt, byteLanes, wideLanes, rawBy, scoreBy, rawFrom, Summed, Raw, Rescored, Grouped}
 use Rattle.scan.proofs.Products.{pair-products, byte-terms}
 use Rattle.scan.proofs.Entries.{changed-like, entry-like}
 use Rattle.scan.proofs.Sizes.{block-size, slot-within}
@@ -85,14 +85,14 @@ module _ (w : ℕ) (evens odds pairs query : List Float) (size : ℕ) (codes mar
 
   -- so the entries are those of the scores
   pub group-changed : (scales : List ℕ) (second : Bool) (all next : List Float) → Raw w raw marks first many sums
-      → Changed (entry (λ i. rawFrom w sums (i - first) ⊗ ofBits binary32 (getD scales i 0)) marks second) first (first + many) all next
-      → Changed (entry (scoreBy w evens odds pairs query size codes scales) marks second) first (first + many) all next
+      → Rescored (scoreNow (λ i. rawFrom w sums (i - first) ⊗ ofBits binary32 (getD scales i 0)) marks second) first (first + many) all next
+      → Rescored (scoreNow (scoreBy w evens odds pairs query size codes scales) marks second) first (first + many) all next
   unfolding scoreBy
   group-changed scales second all next r =
-      changed-like (entry (λ i. rawFrom w sums (i - first) ⊗ ofBits binary32 (getD scales i 0)) marks second)
-      (entry (λ i. raw i ⊗ ofBits binary32 (getD scales i 0)) marks second) first (first + many) all next
+      changed-like (scoreNow (λ i. rawFrom w sums (i - first) ⊗ ofBits binary32 (getD scales i 0)) marks second)
+      (scoreNow (λ i. raw i ⊗ ofBits binary32 (getD scales i 0)) marks second) first (first + many) all next
       (λ i old p q. entry-like (λ i. rawFrom w sums (i - first) ⊗ ofBits binary32 (getD scales i 0)) marks second (λ i. raw i ⊗ ofBits binary32 (getD scales i 0)) i old
       (λ t.
       let e : first + (i - first) ≡ i = omega arith in
       ap (λ (x : Float). x ⊗ ofBits binary32 (getD scales i 0))
-      (r .each (i - first) (omega arith) (ap (marked marks) e ∙ t) ∙ ap raw e)))
+      (r .each (i - first) (omega arith) (ap (takesPart marks) e ∙ t) ∙ ap raw e)))

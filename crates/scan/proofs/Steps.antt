@@ -17,7 +17,7 @@ use Rattle.lists.proofs.Laws.{tab-ext}
 use Rattle.lists.proofs.Entries.{entries}
 use Rattle.digits.specs.Digits.{number}
 use Rattle.score.specs.Lanes.{bracketed}
-use Rattle.scan.specs.Scan.{entryOf}
+use Rattle.scan.specs.Scan.{scoreAfter}
 use Rattle.scan.specs.Groups.{partAt, rawFrom}
 
 -- ---- a part, entry by entry
@@ -84,12 +84,12 @@ module _ (w : ℕ) (sums : List Float) (k : ℕ) (acc : List Float) (x : Float) 
 -- ---- a slot's entry
 
 module _ (mark : ℕ) (second : Bool) (old : Float) where
-  pub entry-unmarked : (score : Float) → mark ≡ 0 → old ≡ entryOf (ltb 0 mark) second score old
-  unfolding entryOf
+  pub entry-unmarked : (score : Float) → mark ≡ 0 → old ≡ scoreAfter (ltb 0 mark) second score old
+  unfolding scoreAfter
   entry-unmarked score e = rw (le-ltb 0 mark (omega arith))
 
-  pub entry-marked : (score score' x : Float) → (mark ≡ 0 → ⊥) → x ≡ entryOf true second score old → score ≡ score' → x ≡ entryOf (ltb 0 mark) second score' old
-  unfolding entryOf
+  pub entry-marked : (score score' x : Float) → (mark ≡ 0 → ⊥) → x ≡ scoreAfter true second score old → score ≡ score' → x ≡ scoreAfter (ltb 0 mark) second score' old
+  unfolding scoreAfter
   entry-marked score score' x n e f = rw (lt-ltb 0 mark (omega arith), ← f) e
 
 -- ---- the part of a slot, by where it begins and ends

@@ -15,9 +15,9 @@ ghost use Rattle.lists.specs.Lists.{tab};
 ghost use Rattle.codes.specs.Stage.{stage};
 ghost use Rattle.score.specs.Score.{stageScore};
 ghost use Rattle.digits.specs.Digits.{number};
-ghost use Rattle.scan.specs.Scan.{stageOf, entryOf, entry, scanned};
+ghost use Rattle.scan.specs.Scan.{stageOf, scoreAfter, scoreNow, scanned};
 ghost use Rattle.scan.specs.Pairs.{Paired, Halved, byteTerm, wordProduct};
-ghost use Rattle.scan.specs.Groups.{partAt, byteLanes, wideLanes, rawBy, scoreBy, rawFrom, Summed, Raw, Changed, Fit, Grouped};
+ghost use Rattle.scan.specs.Groups.{partAt, byteLanes, wideLanes, rawBy, scoreBy, rawFrom, Summed, Raw, Rescored, Fit, Grouped};
 
 // ---- tables, made once for all slots
 
@@ -95,7 +95,9 @@ fn byte_step(
 
 // The eight running sums over a block of whole groups of eight bytes.
 fn byte_lanes(block: &[u8], evens: &[f32], odds: &[f32], pairs: &[f32]) -> [f32; 8]
-    requires { ⌜ (length (now block) % 8 ≡ 0) × (length (now block) ≤ length (now evens)) × (length (now block) ≤ length (now odds)) × (512 ≤ length (now pairs)) ⌝ }
+    requires { ⌜
+        (length (now block) % 8 ≡ 0) × (length (now block) ≤ length (now evens))
+        × (length (now block) ≤ length (now odds)) × (512 ≤ length (now pairs)) ⌝ }
     ensures { λ r. ⌜ r ≡ byteLanes (now (evens .entry)) (now (odds .entry)) (now (pairs .entry)) (now (block .entry)) ⌝ }
 {
     let mut acc = [0.0f32; 8];
@@ -164,7 +166,9 @@ struct Two {
 
 // At 5 bits.
 fn lanes_five(one: &[u8], other: &[u8], query: &[f32], pairs: &[f32]) -> Two
-    requires { ⌜ (length (now query) % 8 ≡ 0) × (length (now query) / 8 * 5 ≤ length (now one)) × (length (now query) / 8 * 5 ≤ length (now other)) × (2048 ≤ length (now pairs)) ⌝ }
+    requires { ⌜
+        (length (now query) % 8 ≡ 0) × (length (now query) / 8 * 5 ≤ length (now one))
+        × (length (now query) / 8 * 5 ≤ length (now other)) × (2048 ≤ length (now pairs)) ⌝ }
     ensures { λ r. ⌜ r .one ≡ wideLanes 5 (now (pairs .entry)) (now (query .entry)) (now (one .entry)) ⌝ }
     ensures { λ r. ⌜ r .other ≡ wideLanes 5 (now (pairs .entry)) (now (query .entry)) (now (other .entry)) ⌝ }
 {
@@ -188,7 +192,9 @@ fn lanes_five(one: &[u8], other: &[u8], query: &[f32], pairs: &[f32]) -> Two
 
 // At 6 bits.
 fn lanes_six(one: &[u8], other: &[u8], query: &[f32], pairs: &[f32]) -> Two
-    requires { ⌜ (length (now query) % 8 ≡ 0) × (length (now query) / 8 * 6 ≤ length (now one)) × (length (now query) / 8 * 6 ≤ length (now other)) × (8192 ≤ length (now pairs)) ⌝ }
+    requires { ⌜
+        (length (now query) % 8 ≡ 0) × (length (now query) / 8 * 6 ≤ length (now one))
+        × (length (now query) / 8 * 6 ≤ length (now other)) × (8192 ≤ length (now pairs)) ⌝ }
     ensures { λ r. ⌜ r .one ≡ wideLanes 6 (now (pairs .entry)) (now (query .entry)) (now (one .entry)) ⌝ }
     ensures { λ r. ⌜ r .other ≡ wideLanes 6 (now (pairs .entry)) (now (query .entry)) (now (other .entry)) ⌝ }
 {
@@ -358,8 +364,12 @@ fn sum_two(
     at2: usize,
     sums: &mut [f32],
 )
-    requires { ⌜ (5 ≤ bits) × (bits ≤ 6) × (2 ^ (bits + bits) * 2 ≤ length (now pairs)) × (length (now query) % 8 ≡ 0) × (length (now query) / 8 * bits ≤ size) ⌝ }
-    requires { ⌜ (one * size + size ≤ length (now codes)) × (other * size + size ≤ length (now codes)) × (at + 4 ≤ length (now sums)) × (at2 + 4 ≤ length (now sums)) ⌝ }
+    requires { ⌜
+        (5 ≤ bits) × (bits ≤ 6) × (2 ^ (bits + bits) * 2 ≤ length (now pairs))
+        × (length (now query) % 8 ≡ 0) × (length (now query) / 8 * bits ≤ size) ⌝ }
+    requires { ⌜
+        (one * size + size ≤ length (now codes)) × (other * size + size ≤ length (now codes))
+        × (at + 4 ≤ length (now sums)) × (at2 + 4 ≤ length (now sums)) ⌝ }
     ensures { λ _. ⌜
         now (sums .exit) ≡ cond any
         (sets (sets (now (sums .entry)) at (wideLanes bits (now (pairs .entry)) (now (query .entry)) (partAt size one (now (codes .entry)))))
@@ -402,7 +412,9 @@ fn sum_wide(
     pairs: &[f32],
     sums: &mut [f32],
 )
-    requires { ⌜ (5 ≤ bits) × (bits ≤ 6) × (2 ^ (bits + bits) * 2 ≤ length (now pairs)) × (length (now query) % 8 ≡ 0) × (length (now query) / 8 * bits ≤ size) ⌝ }
+    requires { ⌜
+        (5 ≤ bits) × (bits ≤ 6) × (2 ^ (bits + bits) * 2 ≤ length (now pairs))
+        × (length (now query) % 8 ≡ 0) × (length (now query) / 8 * bits ≤ size) ⌝ }
     requires { ⌜ ((first + many) * size ≤ length (now codes)) × (first + many ≤ length (now marks)) × (many * 4 ≤ length (now sums)) ⌝ }
     ensures { λ _. ⌜
         Summed 4 (λ i. wideLanes bits (now (pairs .entry)) (now (query .entry)) (partAt size i (now (codes .entry))))
@@ -439,14 +451,14 @@ fn raw_of(bits: u8, sums: &[f32], k: usize) -> f32
     ensures { λ r. ⌜ r ≡ rawFrom bits (now (sums .entry)) k ⌝ }
 {
     if bits == 4 {
-        return score::fold_eight(eight_at(sums, k * 8)) + 0.0;
+        return folds::fold_eight(eight_at(sums, k * 8)) + 0.0;
     }
-    score::fold_four(four_at(sums, k * 4))
+    folds::fold_four(four_at(sums, k * 4))
 }
 
 // What a marked slot's entry becomes.
 fn joined(second: bool, score: f32, old: f32) -> f32
-    ensures { λ r. ⌜ r ≡ entryOf true second score old ⌝ }
+    ensures { λ r. ⌜ r ≡ scoreAfter true second score old ⌝ }
 {
     if second {
         return old + score;
@@ -465,7 +477,7 @@ fn group_entry(
     old: f32,
 ) -> f32
     requires { ⌜ k * 8 + 8 ≤ length (now sums) ⌝ }
-    ensures { λ r. ⌜ r ≡ entryOf (ltb 0 mark) second (rawFrom bits (now (sums .entry)) k ⊗ ofBits binary32 scale) old ⌝ }
+    ensures { λ r. ⌜ r ≡ scoreAfter (ltb 0 mark) second (rawFrom bits (now (sums .entry)) k ⊗ ofBits binary32 scale) old ⌝ }
 {
     if mark == 0 {
         return old;
@@ -485,9 +497,11 @@ fn enter_group(
     second: bool,
     all: &mut [f32],
 )
-    requires { ⌜ (many * 8 ≤ length (now sums)) × (first + many ≤ length (now scales)) × (first + many ≤ length (now marks)) × (first + many ≤ length (now all)) ⌝ }
+    requires { ⌜
+        (many * 8 ≤ length (now sums)) × (first + many ≤ length (now scales))
+        × (first + many ≤ length (now marks)) × (first + many ≤ length (now all)) ⌝ }
     ensures { λ _. ⌜
-        Changed (entry (λ i. rawFrom bits (now (sums .entry)) (i - first) ⊗ ofBits binary32 (getD (now (scales .entry)) i 0)) (now (marks .entry)) second)
+        Rescored (scoreNow (λ i. rawFrom bits (now (sums .entry)) (i - first) ⊗ ofBits binary32 (getD (now (scales .entry)) i 0)) (now (marks .entry)) second)
         first (first + many) (now (all .entry)) (now (all .exit)) ⌝ }
 {
     let mut k: usize = 0;
@@ -555,9 +569,12 @@ fn scan_groups(
     all: &mut [f32],
 )
     requires { ⌜ Fit bits (length (now query)) size (length (now evens)) (length (now odds)) (length (now pairs)) ⌝ }
-    requires { ⌜ (n * size ≤ length (now codes)) × (n ≤ length (now scales)) × (n ≤ length (now marks)) × (n ≤ length (now all)) × (2048 ≤ length (now sums)) ⌝ }
+    requires { ⌜
+        (n * size ≤ length (now codes)) × (n ≤ length (now scales))
+        × (n ≤ length (now marks)) × (n ≤ length (now all)) × (2048 ≤ length (now sums)) ⌝ }
     ensures { λ _. ⌜
-        Changed (entry (scoreBy bits (now (evens .entry)) (now (odds .entry)) (now (pairs .entry)) (now (query .entry)) size (now (codes .entry)) (now (scales .entry)))
+        Rescored
+        (scoreNow (scoreBy bits (now (evens .entry)) (now (odds .entry)) (now (pairs .entry)) (now (query .entry)) size (now (codes .entry)) (now (scales .entry)))
         (now (marks .entry)) second) 0 n (now (all .entry)) (now (all .exit)) ⌝ }
 {
     let mut first: usize = 0;
@@ -606,7 +623,7 @@ fn scan_fitting(
     requires { ⌜ Grouped bits (length (now centroids)) (length (now query)) size (length (now codes)) (length (now scales)) (length (now marks)) n ⌝ }
     requires { ⌜ n ≤ length (now all) ⌝ }
     ensures { λ _. ⌜
-        Changed (entry (stageOf bits (now (centroids .entry)) (now (query .entry)) size (now (codes .entry)) (now (scales .entry)))
+        Rescored (scoreNow (stageOf bits (now (centroids .entry)) (now (query .entry)) size (now (codes .entry)) (now (scales .entry)))
         (now (marks .entry)) second) 0 n (now (all .entry)) (now (all .exit)) ⌝ }
 {
     let mut pairs = pair_floats();
@@ -663,12 +680,14 @@ fn plain_entry(
     second: bool,
     old: f32,
 ) -> f32
-    ensures { λ r. ⌜ r ≡ entryOf (ltb 0 mark) second (stageScore bits (now (centroids .entry)) (now (query .entry)) (stage scale (now (block .entry)))) old ⌝ }
+    ensures { λ r. ⌜
+        r
+        ≡ scoreAfter (ltb 0 mark) second (stageScore bits (now (centroids .entry)) (now (query .entry)) (stage scale (now (block .entry)))) old ⌝ }
 {
     if mark == 0 {
         return old;
     }
-    let score = score::stage_score(bits, centroids, query, scale, block);
+    let score = kernels::stage_score(bits, centroids, query, scale, block);
     joined(second, score, old)
 }
 
@@ -687,7 +706,7 @@ fn scan_plainly(
 )
     requires { ⌜ n ≤ length (now all) ⌝ }
     ensures { λ _. ⌜
-        Changed (entry (stageOf bits (now (centroids .entry)) (now (query .entry)) size (now (codes .entry)) (now (scales .entry)))
+        Rescored (scoreNow (stageOf bits (now (centroids .entry)) (now (query .entry)) size (now (codes .entry)) (now (scales .entry)))
         (now (marks .entry)) second) 0 n (now (all .entry)) (now (all .exit)) ⌝ }
 {
     let mut i: usize = 0;

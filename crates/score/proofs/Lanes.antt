@@ -12,7 +12,7 @@ use lib.Dec.{eqb}
 use lib.ListN.{length, take, getD, set}
 use lib.Seq.{take-suc, take-all, length-take-le}
 use lib.Ieee.{Float, nan}
-use Rattle.pattern.specs.Binary32.{_⊕_, +0, sum}
+use Rattle.pattern.specs.Binary32.{_⊕_, +0, sumOf}
 use Rattle.pattern.proofs.Sums.{sum-snoc}
 use Rattle.lists.specs.Lists.{tab}
 use Rattle.lists.proofs.Laws.{getD-tab, tab-ext}
@@ -33,15 +33,15 @@ module _ (m : ℕ) where
 
   -- the sum of lane j, and with one term more
   abbrev lane : ℕ → List Float → Float
-  lane j xs = sum (inLane m j 0 xs)
+  lane j xs = sumOf (inLane m j 0 xs)
 
   more : (j : ℕ) (xs : List Float) (x : Float)
       → lane j (xs ++ (x ∷ [])) ≡ cond (eqb (length xs % m) j) (lane j xs ⊕ x) (lane j xs)
-  more j xs x = ap sum (lane-snoc j 0 xs x) ∙ rw (zero-add (length xs)) (go (eqb (length xs % m) j) (inLane m j 0 xs))
+  more j xs x = ap sumOf (lane-snoc j 0 xs x) ∙ rw (zero-add (length xs)) (go (eqb (length xs % m) j) (inLane m j 0 xs))
     where
-      go : (b : Bool) (l : List Float) → sum (l ++ cond b (x ∷ []) []) ≡ cond b (sum l ⊕ x) (sum l)
+      go : (b : Bool) (l : List Float) → sumOf (l ++ cond b (x ∷ []) []) ≡ cond b (sumOf l ⊕ x) (sumOf l)
       go true l = sum-snoc +0 l x
-      go false l = ap sum (append-nil l)
+      go false l = ap sumOf (append-nil l)
 
   more-of : (ts : List Float) (j n : ℕ) → n < length ts
       → lane j (take (suc n) ts) ≡ cond (eqb (n % m) j) (lane j (take n ts) ⊕ getD ts n nan) (lane j (take n ts))

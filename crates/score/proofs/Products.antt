@@ -5,39 +5,41 @@ use Prim.Native.Nat.{ℕ, zero, suc, _+_, _*_, _/_, _%_, _^_, _≤_, _<_}
 use native.Mathlib.Nat.{div-div-eq-div-mul}
 use native.Mathlib.Omega.{arith}
 use lib.Pow.{pow-add}
-use lib.ListN.{length, getD, length-map, List·getD-map}
+use lib.ListN.{length, getD}
 use lib.Ieee.{Float, nan}
 use Rattle.pattern.specs.Binary32.{_⊕_, _⊗_, +0}
 use Rattle.lists.proofs.Laws.{getD-default}
 use Rattle.digits.specs.Digits.{number, Below}
 use Rattle.digits.proofs.Places.{pow-mul}
 use Rattle.digits.proofs.Number.{digit-number}
+use Rattle.lloyd.specs.Quantizer.{centroidAt, decoded}
+use Rattle.lloyd.proofs.Decoded.{length-decoded, getD-decoded}
 use Rattle.codes.specs.Packing.{codeAt, unpacked}
 use Rattle.codes.specs.Writing.{atWidth}
 use Rattle.codes.proofs.Tests.{at-width}
 use Rattle.codes.proofs.Packing.{length-unpacked, getD-unpacked, codeAt-lt}
 use Rattle.score.specs.Lanes.{pairSums}
-use Rattle.score.specs.Score.{decoded, products, blockProducts, byteTerms}
+use Rattle.score.specs.Score.{products, blockProducts, byteTerms}
 use Rattle.lists.proofs.Entries.{length-zip, getD-zip}
 
 -- ---- products
 
 module _ (w : ℕ) (centroids : List Float) (block : List ℕ) (query : List Float) where
-  length-decoded : length (decoded centroids (unpacked w (length query) block)) ≡ length query
-  length-decoded = length-map (unpacked w (length query) block) (λ code. getD centroids code +0) ∙ length-unpacked w (length query) block
+  length-read : length (decoded centroids (unpacked w (length query) block)) ≡ length query
+  length-read = length-decoded centroids (unpacked w (length query) block) ∙ length-unpacked w (length query) block
 
   pub length-products : length (blockProducts w centroids block query) ≡ length query
   unfolding blockProducts products
-  length-products = length-zip _⊗_ query _ length-decoded
+  length-products = length-zip _⊗_ query _ length-read
 
   pub product-at : (i : ℕ) → length centroids ≡ 2 ^ w → i < length query
       → getD query i nan ⊗ getD centroids (codeAt w block i) nan ≡ getD (blockProducts w centroids block query) i nan
   unfolding blockProducts products
   product-at i e h =
-      sym (getD-zip _⊗_ query _ i nan (getD centroids 0 +0) nan h (omega (arith, length-decoded))
+      sym (getD-zip _⊗_ query _ i nan (centroidAt centroids 0) nan h (omega (arith, length-read))
       ∙ ap (λ (x : Float). getD query i nan ⊗ x)
-      (List·getD-map (λ code. getD centroids code +0) (unpacked w (length query) block) i 0
-      ∙ ap (λ (code : ℕ). getD centroids code +0) (getD-unpacked w (length query) block i h)
+      (getD-decoded centroids (unpacked w (length query) block) i
+      ∙ ap (centroidAt centroids) (getD-unpacked w (length query) block i h)
       ∙ getD-default centroids (codeAt w block i) +0 nan (rw e (codeAt-lt w block i))))
 
 -- ---- with the code as the program reads it, at a width that codes have

@@ -6,7 +6,7 @@ use mathlib.Core.Bool.{cond}
 use lib.Dec.{eqb}
 use lib.ListN.{getD}
 use lib.Ieee.{Float}
-use Rattle.pattern.specs.Binary32.{_⊕_, +0, sum}
+use Rattle.pattern.specs.Binary32.{_⊕_, +0, sumOf}
 use Rattle.lists.specs.Lists.{tab}
 
 -- the terms whose index modulo m is j; the first of the list has the index i
@@ -16,7 +16,7 @@ inLane m j i (x ∷ xs) = cond (eqb (i % m) j) (x ∷ inLane m j (suc i) xs) (in
 
 -- m running sums, that of lane j being of its terms in index order, from +0
 unfoldable pub lanes : ℕ → List Float → List Float
-lanes m terms = tab (λ j. sum (inLane m j 0 terms)) m
+lanes m terms = tab (λ j. sumOf (inLane m j 0 terms)) m
 
 -- neighbours added: the entries 0 and 1, 2 and 3, and on. A last entry without a neighbour is left out.
 unfoldable pub pairSums : List Float → List Float

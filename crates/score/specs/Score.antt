@@ -1,13 +1,14 @@
 -- The score of a slot under a prepared query (document 01, store.rs). The table of centroids is an argument: any table will do.
-use mathlib.Core.List.{List, map}
+use mathlib.Core.List.{List}
 use Prim.Native.Nat.{ℕ, _*_, _/_, _^_}
 use mathlib.Core.Bool.{Bool, _&&_, cond}
 use mathlib.Core.Option.{Option, none, some}
 use lib.Dec.{leb, eqb}
-use lib.ListN.{length, take, drop, getD}
+use lib.ListN.{length, take, drop}
 use lib.Ieee.{Float, binary32, ofBits, isNan}
-use Rattle.pattern.specs.Binary32.{_⊕_, _⊗_, +0, sum}
+use Rattle.pattern.specs.Binary32.{_⊕_, _⊗_, +0, sumOf}
 use Rattle.lists.specs.Lists.{zipWith}
+use Rattle.lloyd.specs.Quantizer.{decoded}
 use Rattle.codes.specs.Packing.{bytesPerVector, unpacked}
 use Rattle.codes.specs.Stage.{Stage}
 use Rattle.score.specs.Lanes.{lanes, pairSums, bracketed}
@@ -15,10 +16,6 @@ use Rattle.score.specs.declared.Scored.{Scored}
 use Rattle.score.specs.declared.Scored.the-variants.{Score, Refused}
 
 -- ---- the raw score of codes
-
--- the centroids that codes stand for
-abbrev pub decoded : (centroids : List Float) → (codes : List ℕ) → List Float
-decoded centroids codes = map (λ code. getD centroids code +0) codes
 
 -- each entry of the query times its code's centroid
 unfoldable pub products : (centroids : List Float) → (codes : List ℕ) → (query : List Float) → List Float
@@ -29,7 +26,7 @@ unfoldable pub byteSums : List Float → Float
 byteSums products =
     let terms = pairSums products in
     let n = length terms / 8 * 8 in
-    bracketed 3 (lanes 8 (take n terms)) ⊕ sum (drop n terms)
+    bracketed 3 (lanes 8 (take n terms)) ⊕ sumOf (drop n terms)
 
 -- "5 and 6 bits (`score_wide_scalar`): four sums by index modulo 4"
 unfoldable pub indexSums : List Float → Float

@@ -1,7 +1,7 @@
 -- The call `score` on a record and arrays that fit: refused by its tests one after the other, or else the slot's score, judged.
 use mathlib.Core.Path.{_≡_, refl, sym, ap, _∙_}
 use mathlib.Core.Bool.{Bool, true, false, cond, _&&_}
-use mathlib.Core.List.{List, [], _∷_}
+use mathlib.Core.List.{[], _∷_}
 use mathlib.Core.Option.{Option, none}
 use Prim.Native.Nat.{ℕ, zero, suc}
 use native.Mathlib.Omega.{arith}
@@ -18,7 +18,7 @@ use Rattle.index.specs.Arrays.{Arrays}
 use Rattle.index.specs.State.{Slot, headerOf, slotAt, stateOf}
 use Rattle.index.specs.Codec.{tiny, scoreOf}
 use Rattle.index.specs.Fit.{fit}
-use Rattle.index.specs.Step.{Answer, refused, done, scoreIs, firstOf, when, unless, answered, scoreAnswer, score, step}
+use Rattle.index.specs.Step.{Query, Answer, refused, done, scoreIs, firstOf, when, unless, answered, scoreAnswer, score, step}
 use Rattle.index.specs.Call.{call}
 use Rattle.index.specs.Answers.{result, scored}
 use Rattle.index.proofs.Calls.{call-answered}
@@ -58,7 +58,7 @@ answer-in (suc f) t x e = absurd (let z : suc f ≡ 0 = e in omega arith)
 
 -- ---- the call
 
-module _ (x : Index) (a : Arrays) (e : fit x a ≡ true) (i : ℕ) (q : List Float) where
+module _ (x : Index) (a : Arrays) (e : fit x a ≡ true) (i : ℕ) (q : Query) where
   by-answer : (o : Option Slot) → getElem? (stateOf x a .slots) i ≡ o → (r : Answer) → r ≡ scoreAnswer (headerOf x) q o → result x a r ≡ call x a (score i q)
   unfolding step stateOf
   by-answer o f r g =
@@ -70,21 +70,21 @@ module _ (x : Index) (a : Arrays) (e : fit x a ≡ true) (i : ℕ) (q : List Flo
     unfolding queryFault scoreAnswer
     score-refused s = go (ltb i (x .n)) refl is
       where
-        go : (b : Bool) → ltb i (x .n) ≡ b → n ≡ firstOf (fault (headerOf x) q ∷ when (tiny (headerOf x) && b) 10 ∷ []) →
+        go : (b : Bool) → ltb i (x .n) ≡ b → n ≡ firstOf (fault (headerOf x) (q .vector) ∷ when (tiny (headerOf x) && b) 10 ∷ []) →
             result x a (refused n) ≡ call x a (score i q)
         go true l f =
             let y = scoreOf (headerOf x) q (slotAt (headerOf x) a i .code) in
-            by-answer _ (slot-in x a e i (ltb-true i (x .n) l)) (refused n) (refused-in (fault (headerOf x) q) (tiny (headerOf x)) (isNan y) (scoreIs y) n f s)
-        go false l f = by-answer none (slot-past x a e i (ltb-false i (x .n) l)) (refused n) (refused-past (fault (headerOf x) q) (tiny (headerOf x)) done n f s)
+            by-answer _ (slot-in x a e i (ltb-true i (x .n) l)) (refused n) (refused-in (fault (headerOf x) (q .vector)) (tiny (headerOf x)) (isNan y) (scoreIs y) n f s)
+        go false l f = by-answer none (slot-past x a e i (ltb-false i (x .n) l)) (refused n) (refused-past (fault (headerOf x) (q .vector)) (tiny (headerOf x)) done n f s)
 
     module _ (accepted : n ≡ 0) where
       pub score-past : ltb i (x .n) ≡ false → result x a (refused 9) ≡ call x a (score i q)
       unfolding queryFault scoreAnswer
       score-past l =
-          by-answer none (slot-past x a e i (ltb-false i (x .n) l)) (refused 9) (past-refused (fault (headerOf x) q) (tiny (headerOf x)) done (rw l at (sym is ∙ accepted)))
+          by-answer none (slot-past x a e i (ltb-false i (x .n) l)) (refused 9) (past-refused (fault (headerOf x) (q .vector)) (tiny (headerOf x)) done (rw l at (sym is ∙ accepted)))
 
       pub score-in : ltb i (x .n) ≡ true → (r : Scored) → r ≡ judged (scoreOf (headerOf x) q (slotAt (headerOf x) a i .code)) → result x a (scored r) ≡ call x a (score i q)
       unfolding queryFault scoreAnswer
       score-in l r f =
           by-answer _ (slot-in x a e i (ltb-true i (x .n) l)) (scored r)
-          (ap scored f ∙ answer-in (fault (headerOf x) q) (tiny (headerOf x)) (scoreOf (headerOf x) q (slotAt (headerOf x) a i .code)) (rw l at (sym is ∙ accepted)))
+          (ap scored f ∙ answer-in (fault (headerOf x) (q .vector)) (tiny (headerOf x)) (scoreOf (headerOf x) q (slotAt (headerOf x) a i .code)) (rw l at (sym is ∙ accepted)))

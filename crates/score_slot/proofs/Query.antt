@@ -1,14 +1,13 @@
 -- A query's refusals before any score, test by test, and what follows where there is none.
 use mathlib.Core.Path.{_≡_, refl, _∙_}
 use mathlib.Core.Bool.{Bool, true, false, _&&_}
-use mathlib.Core.List.{List, [], _∷_}
+use mathlib.Core.List.{[], _∷_}
 use Prim.Native.Nat.{ℕ, zero, suc, _≤_}
 use native.Mathlib.Omega.{arith}
 use lib.ListN.{length}
-use lib.Ieee.{Float}
 use Rattle.unit.specs.Calls.{rotatable}
 use Rattle.unit.proofs.Rotatable.{is-rotatable, padded-most}
-use Rattle.unit.proofs.Vectors.{has-length}
+use Rattle.vectors.proofs.Faults.{has-length}
 use Rattle.encode.specs.declared.Header.{Header}
 use Rattle.encode.specs.Coded.{fault}
 use Rattle.index.specs.declared.Index.{Index}
@@ -16,18 +15,18 @@ use Rattle.index.specs.Arrays.{Arrays}
 use Rattle.index.specs.State.{headerOf}
 use Rattle.index.specs.Codec.{tiny}
 use Rattle.index.specs.Fit.{fit}
-use Rattle.index.specs.Step.{firstOf, when}
+use Rattle.index.specs.Step.{Query, firstOf, when}
 use Rattle.fit.proofs.Meaning.{meaning}
 use Rattle.score_slot.specs.Query.{queryFault}
 
 -- ---- the tests
 
-module _ (h : Header) (any : Bool) (q : List Float) where
-  by-tests : (n : ℕ) (b : Bool) → n ≡ fault h q → b ≡ (tiny h && any) → firstOf (n ∷ when b 10 ∷ []) ≡ queryFault h any q
+module _ (h : Header) (any : Bool) (q : Query) where
+  by-tests : (n : ℕ) (b : Bool) → n ≡ fault h (q .vector) → b ≡ (tiny h && any) → firstOf (n ∷ when b 10 ∷ []) ≡ queryFault h any q
   unfolding queryFault
   by-tests n b e f = λ j. firstOf (e j ∷ when (f j) 10 ∷ [])
 
-  pub fault-vector : (n : ℕ) → n ≡ fault h q → (n ≡ 0 → ⊥) → n ≡ queryFault h any q
+  pub fault-vector : (n : ℕ) → n ≡ fault h (q .vector) → (n ≡ 0 → ⊥) → n ≡ queryFault h any q
   unfolding firstOf
   fault-vector n e some = go n some ∙ by-tests n (tiny h && any) e refl
     where
@@ -35,7 +34,7 @@ module _ (h : Header) (any : Bool) (q : List Float) where
       go zero s = absurd (s refl)
       go (suc m) s = refl
 
-  module _ (e : 0 ≡ fault h q) where
+  module _ (e : 0 ≡ fault h (q .vector)) where
     pub fault-idle : any ≡ false → 0 ≡ queryFault h any q
     unfolding firstOf
     fault-idle f = by-tests 0 false e (rw f (go (tiny h)))
@@ -58,9 +57,9 @@ module _ (h : Header) (any : Bool) (q : List Float) where
 
 -- ---- no refusal
 
-no-fault : (h : Header) (any : Bool) (q : List Float) → queryFault h any q ≡ 0 → fault h q ≡ 0
+no-fault : (h : Header) (any : Bool) (q : Query) → queryFault h any q ≡ 0 → fault h (q .vector) ≡ 0
 unfolding queryFault firstOf
-no-fault h any q e = go (fault h q) (tiny h && any) e
+no-fault h any q e = go (fault h (q .vector)) (tiny h && any) e
   where
     go : (n : ℕ) (b : Bool) → firstOf (n ∷ when b 10 ∷ []) ≡ 0 → n ≡ 0
     go zero b f = refl
@@ -71,13 +70,13 @@ module _ (x : Index) (a : Arrays) (e : fit x a ≡ true) where
   width-in = let f = meaning x a .yes e .fields in (f .bits, f .bits-high)
 
   -- what preparing the query asks for
-  pub query-rotatable : (any : Bool) (q : List Float) → queryFault (headerOf x) any q ≡ 0 → rotatable (x .«working_dim») (length q) 4096 ≡ true
+  pub query-rotatable : (any : Bool) (q : Query) → queryFault (headerOf x) any q ≡ 0 → rotatable (x .«working_dim») (length (q .vector)) 4096 ≡ true
   query-rotatable any q accepted =
       let f = meaning x a .yes e .fields in
       let few : x .«working_dim» ≤ 4096 = omega (arith, f .working-high, f .dim-high) in
       is-rotatable (record {
         some = f .working;
         most = few;
-        has = omega (arith, f .working-high, has-length (x .dim) (x .«working_dim») q (no-fault (headerOf x) any q accepted));
+        has = omega (arith, f .working-high, has-length (x .dim) (x .«working_dim») (q .vector) (no-fault (headerOf x) any q accepted));
         room = padded-most (x .«working_dim») few;
       })

@@ -17,9 +17,10 @@ use Rattle.codes.specs.Packing.{bytesPerVector}
 use Rattle.codes.specs.Slots.{blockAt}
 use Rattle.codes.specs.Stage.{Stage, stage}
 use Rattle.codes.specs.Writing.{atWidth}
+use Rattle.unit.specs.Brought.{Query}
 use Rattle.unit.specs.Unit.{rotatedBy, prepared, unit, norm}
 use Rattle.unit.specs.Calls.{rotatable, Prepared, query, preparedInto}
-use Rattle.unit.proofs.Filling.{length-divided}
+use Rattle.vectors.proofs.Filling.{length-divided}
 use Rattle.unit.proofs.Vectors.{length-rotated}
 use Rattle.encode.specs.declared.Header.{Header}
 use Rattle.encode.specs.Header.{blockSize}
@@ -28,34 +29,34 @@ use Rattle.score.specs.declared.Scored.{Scored}
 use Rattle.pattern.specs.Binary32.{_⊕_}
 use Rattle.score.specs.Score.{fitting, ofBlock, rawOfBlock, stageScore, slotScore, judged}
 use Rattle.index.specs.State.{stageAt}
-use Rattle.index.specs.Codec.{scoreOf}
-use Rattle.index.proofs.Marks.{and-left, and-right}
+use Rattle.index.specs.Codec.{scoreByTable, scoreOf}
+use Rattle.lists.proofs.Tests.{and-left, and-right}
 use Rattle.fit.proofs.Rooms.{in-width}
 
 -- ---- a stage of a slot
 
 module _ (h : Header) (centroids q : List Float) where
   abbrev scoreBy : Stage → Float
-  scoreBy g = stageScore (h .width) centroids q g
+  scoreBy g = stageScore (h .bits) centroids q g
 
   -- the bytes of a slot, as the program asks for them
-  size-is : (p s : ℕ) → 4 ≤ h .width → h .width ≤ 6 → p ≡ paddedDim (h .working) → s ≡ atWidth (h .width) (bytesPerVector (h .width) p) → s ≡ blockSize h
-  size-is p s l m e f = f ∙ in-width (h .width) (bytesPerVector (h .width) p) l m ∙ ap (bytesPerVector (h .width)) e
+  size-is : (p s : ℕ) → 4 ≤ h .bits → h .bits ≤ 6 → p ≡ paddedDim (h .«working_dim») → s ≡ atWidth (h .bits) (bytesPerVector (h .bits) p) → s ≡ blockSize h
+  size-is p s l m e f = f ∙ in-width (h .bits) (bytesPerVector (h .bits) p) l m ∙ ap (bytesPerVector (h .bits)) e
 
   -- at any other width the block does not count
-  no-block : (scale : ℕ) (block other : List ℕ) → (leb 4 (h .width) && leb (h .width) 6) ≡ false → scoreBy (stage scale block) ≡ scoreBy (stage scale other)
+  no-block : (scale : ℕ) (block other : List ℕ) → (leb 4 (h .bits) && leb (h .bits) 6) ≡ false → scoreBy (stage scale block) ≡ scoreBy (stage scale other)
   unfolding stageScore rawOfBlock ofBlock fitting
   no-block scale block other t = rw t
 
-  pub stage-lent : (p s : ℕ) → p ≡ paddedDim (h .working) → s ≡ atWidth (h .width) (bytesPerVector (h .width) p) →
+  pub stage-lent : (p s : ℕ) → p ≡ paddedDim (h .«working_dim») → s ≡ atWidth (h .bits) (bytesPerVector (h .bits) p) →
       (scales codes : List ℕ) (i scale : ℕ) (block : List ℕ) → scale ≡ getD scales i 0 → block ≡ blockAt s i codes →
       scoreBy (stage scale block) ≡ scoreBy (stageAt h scales codes i)
-  stage-lent p s e f scales codes i scale block g k = go (leb 4 (h .width) && leb (h .width) 6) refl
+  stage-lent p s e f scales codes i scale block g k = go (leb 4 (h .bits) && leb (h .bits) 6) refl
     where
-      go : (b : Bool) → (leb 4 (h .width) && leb (h .width) 6) ≡ b → scoreBy (stage scale block) ≡ scoreBy (stageAt h scales codes i)
+      go : (b : Bool) → (leb 4 (h .bits) && leb (h .bits) 6) ≡ b → scoreBy (stage scale block) ≡ scoreBy (stageAt h scales codes i)
       go true t =
-          let l : 4 ≤ h .width = leb-true 4 (h .width) (and-left (leb 4 (h .width)) (leb (h .width) 6) t) in
-          let m : h .width ≤ 6 = leb-true (h .width) 6 (and-right (leb 4 (h .width)) (leb (h .width) 6) t) in
+          let l : 4 ≤ h .bits = leb-true 4 (h .bits) (and-left (leb 4 (h .bits)) (leb (h .bits) 6) t) in
+          let m : h .bits ≤ 6 = leb-true (h .bits) 6 (and-right (leb 4 (h .bits)) (leb (h .bits) 6) t) in
           let b : block ≡ blockAt (blockSize h) i codes = k ∙ ap (λ (z : ℕ). blockAt z i codes) (size-is p s l m e f) in
           λ j. scoreBy (stage (g j) (b j))
       go false t = no-block scale block (blockAt (blockSize h) i codes) t ∙ ap (λ (z : ℕ). scoreBy (stage z (blockAt (blockSize h) i codes))) g
@@ -86,7 +87,7 @@ query-lent working seed q out next r t e p f =
     rw (sub-zero p, n, is) (take-append-seam (prepared xs) (drop (length (prepared xs)) out))
 
 -- a slot's score by what is lent
-pub score-lent : (h : Header) (q cs xs : List Float) (first second : Stage) → cs ≡ centroidsOf (h .width) → xs ≡ prepared (rotatedBy (h .working) (h .seed) q) →
-    judged (slotScore (h .width) cs xs first (cond (h .residual) (some second) none)) ≡ judged (scoreOf h q (codeIn (h .residual) first second))
-unfolding scoreOf
-score-lent h q cs xs first second e f = λ j. judged (slotScore (h .width) (e j) (f j) first (cond (h .residual) (some second) none))
+pub score-lent : (h : Header) (q : Query) (cs xs : List Float) (first second : Stage) → cs ≡ centroidsOf (h .bits) → xs ≡ prepared (rotatedBy (h .«working_dim») (h .seed) (q .vector)) →
+    judged (slotScore (h .bits) cs xs first (cond (h .residual) (some second) none)) ≡ judged (scoreOf h q (codeIn (h .residual) first second))
+unfolding scoreByTable
+score-lent h q cs xs first second e f = λ j. judged (slotScore (h .bits) (e j) (f j) first (cond (h .residual) (some second) none))

@@ -11,6 +11,7 @@ ghost use Rattle.index.specs.Arrays.{lent};
 ghost use Rattle.index.specs.State.{headerOf, stageAt};
 ghost use Rattle.index.specs.Codec.{tiny, scoreOf};
 ghost use Rattle.index.specs.Step as Step;
+ghost use Rattle.index.specs.Step.{queryOf};
 ghost use Rattle.index.specs.Call.{call};
 ghost use Rattle.index.specs.Answers.{result, scored};
 ghost use Rattle.score_slot.specs.Query.{queryFault};
@@ -31,9 +32,9 @@ fn is_tiny(index: Index) -> bool
 
 // The refusal of a query before any score: 1, 2, 3, and 10 where there is any slot to score; 0 for none.
 pub fn query_fault(index: Index, any: bool, query: &[f32]) -> u8
-    ensures { λ r. ⌜ r ≡ queryFault (headerOf index) any (now (query .entry)) ⌝ }
+    ensures { λ r. ⌜ r ≡ queryFault (headerOf index) any (queryOf (now (query .entry))) ⌝ }
 {
-    let fault = unit::vector_fault(index.dim, index.working_dim, query);
+    let fault = vectors::vector_fault(index.dim, index.working_dim, query);
     if fault != 0 {
         return fault;
     }
@@ -85,9 +86,9 @@ fn score_prepared(
     if index.residual {
         let scale2 = scale_at(scales2, slot);
         let block2 = codes::slot_codes(codes2, slot, size);
-        return score::score_residual(index.bits, centroids, query, scale, block, scale2, block2);
+        return scoring::score_residual(index.bits, centroids, query, scale, block, scale2, block2);
     }
-    score::score(index.bits, centroids, query, scale, block)
+    scoring::score(index.bits, centroids, query, scale, block)
 }
 
 // The score of a slot under a query that is not refused, by the centroids of the width.
@@ -103,7 +104,7 @@ fn score_by_width(
     requires { ⌜ (4 ≤ index .bits) × (index .bits ≤ 6) ⌝ }
     requires { ⌜ rotatable (index .«working_dim») (length (now query)) 4096 ≡ true ⌝ }
     ensures { λ r. ⌜
-        r ≡ judged (scoreOf (headerOf index) (now (query .entry)) (codeIn (index .residual)
+        r ≡ judged (scoreOf (headerOf index) (queryOf (now (query .entry))) (codeIn (index .residual)
         (stageAt (headerOf index) (now (scales .entry)) (now (codes .entry)) slot)
         (stageAt (headerOf index) (now (scales2 .entry)) (now (codes2 .entry)) slot))) ⌝ }
 {
@@ -143,7 +144,7 @@ pub fn score(
     ensures { λ r. ⌜
         result index (lent (codes .entry) (scales .entry) (keys .entry) (keyed .entry) (held .entry) (alive .entry) (codes2 .entry) (scales2 .entry)) (scored r)
         ≡ call index (lent (codes .entry) (scales .entry) (keys .entry) (keyed .entry) (held .entry) (alive .entry) (codes2 .entry) (scales2 .entry))
-        (Step.score slot (now (query .entry))) ⌝ }
+        (Step.score slot (queryOf (now (query .entry)))) ⌝ }
 {
     if !fit::fits(
         index,

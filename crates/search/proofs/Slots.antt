@@ -12,7 +12,7 @@ use Rattle.index.specs.declared.Found.{Found}
 use Rattle.index.specs.declared.Found.the-variants as Found
 use Rattle.index.specs.Arrays.{Arrays}
 use Rattle.index.specs.State.{headerOf, stateOf}
-use Rattle.index.specs.Step.{Hit, Answer, hits, when, unless, liveFrom, bySlot, searched, answered, step}
+use Rattle.index.specs.Step.{Query, Hit, Answer, hits, when, unless, liveFrom, bySlot, searched, answered, step}
 use Rattle.index.specs.Step as Step
 use Rattle.index.specs.Call.{Result, call}
 use Rattle.index.specs.Answers.{result, filed, files}
@@ -25,7 +25,7 @@ use Rattle.asking.proofs.Searched.{liveNan, liveChosen, searched-fits, searched
 abbrev bySlots : List Hit → Answer
 bySlots xs = hits (map bySlot xs)
 
-module _ (x : Index) (a : Arrays) (q : List Float) (k places : ℕ) where
+module _ (x : Index) (a : Arrays) (q : Query) (k places : ℕ) where
   is : (room : ℕ) → step room (stateOf x a) (Step.search q k places) ≡
       answered (stateOf x a) (searched (headerOf x) (liveFrom 0 (stateOf x a .slots)) q k places bySlots)
   unfolding step stateOf
@@ -37,7 +37,7 @@ module _ (x : Index) (a : Arrays) (q : List Float) (k places : ℕ) where
     slots-refused some = ap (λ (r : Result). files r ns ss) (search-refused x a q k places (Step.search q k places) bySlots is f e some)
 
     abbrev can : Bool
-    can = ready (x .n) (x .bits) (x .«working_dim») (length q)
+    can = ready (x .n) (x .bits) (x .«working_dim») (length (q .vector))
 
     -- after `hits::list`
     pub slots-listed : f ≡ 0 → (r : Found) (ms : List ℕ) (ts : List Float) →

@@ -4,6 +4,7 @@ ghost use Prim.Native.Nat.{min};
 ghost use lib.ListN.{length};
 ghost use Rattle.index.specs.Arrays.{lent};
 ghost use Rattle.index.specs.Step as Step;
+ghost use Rattle.index.specs.Step.{queryOf};
 ghost use Rattle.index.specs.Call.{call};
 ghost use Rattle.index.specs.Answers.{filed, files};
 use index::Found;
@@ -30,7 +31,7 @@ pub fn search(
         filed index (lent (codes .entry) (scales .entry) (keys .entry) (keyed .entry) (held .entry) (alive .entry) (codes2 .entry) (scales2 .entry))
         r (now (slots .exit)) (now (scores .exit))
         ≡ files (call index (lent (codes .entry) (scales .entry) (keys .entry) (keyed .entry) (held .entry) (alive .entry) (codes2 .entry) (scales2 .entry))
-        (Step.search (now (query .entry)) k (min (length (now (slots .entry))) (length (now (scores .entry))))))
+        (Step.search (queryOf (now (query .entry))) k (min (length (now (slots .entry))) (length (now (scores .entry))))))
         (now (slots .entry)) (now (scores .entry)) ⌝ }
 {
     let fault = asking::search_fault(

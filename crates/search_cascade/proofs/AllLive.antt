@@ -17,7 +17,7 @@ use Rattle.index.specs.State.{State, stateOf}
 use Rattle.index.specs.Codec.{distance}
 use Rattle.index.specs.Fit.{fit}
 use Rattle.index.specs.Step.{Query, Answer, refused, hits, firstOf, when, unless, Cell, liveFrom, hitsOf, rank, bySlot, shortResult, queryRefusal, nearer, candidates, wide, searched, searchedCascade, search, searchCascade, answered, step}
-use Rattle.index.specs.Call.{Result, written, call}
+use Rattle.index.specs.Call.{Result, laidOver, call}
 use Rattle.index.proofs.Calls.{call-misfit, call-fits}
 use Rattle.asking.proofs.Live.{live-length}
 
@@ -53,7 +53,7 @@ module _ (s : State) (cs : List Cell) (q : Query) (k r places : ℕ) (l : length
   step-all accepted = all ∙ go (shortResult k (length cs) places) eleven (queryRefusal (s .header) q (hitsOf (s .header) q cs)) listed (λ n e. accepted n (all ∙ e))
     where
       eleven : ℕ
-      eleven = when (not (s .cascade && eqb (s .header .width) 4)) 11
+      eleven = when (not (s .cascade && eqb (s .header .bits) 4)) 11
 
       listed : Answer
       listed = hits (map bySlot (choose rank k (hitsOf (s .header) q cs)))
@@ -82,7 +82,7 @@ call-all x a q k r places l accepted = go (fit x a) refl
     go false e = absurd (accepted 13 (ap (λ (o : Result). o .answer) (call-misfit x a (searchCascade q k r places) e)))
     go true e =
         call-fits x a (searchCascade q k r places) e
-        ∙ ap (λ (o : Answer). written a (answered (stateOf x a) o))
+        ∙ ap (λ (o : Answer). laidOver a (answered (stateOf x a) o))
         (step-all (stateOf x a) (liveFrom 0 (stateOf x a .slots)) q k r places (omega (arith, live-length x a e))
         (λ n f. accepted n (ap (λ (o : Result). o .answer) (call-fits x a (searchCascade q k r places) e) ∙ f)))
         ∙ sym (call-fits x a (search q k places) e)

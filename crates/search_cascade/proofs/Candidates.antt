@@ -6,8 +6,7 @@ use Prim.Native.Nat.{ℕ, _<_, min}
 use native.Mathlib.Omega.{arith}
 use lib.Dec.{ltb, eqb}
 use lib.ListN.{length, length-map}
-use lib.Ieee.{Float}
-use Rattle.lists.specs.Lists.{tab, over}
+use Rattle.lists.specs.Lists.{tab, over, below}
 use Rattle.lists.specs.Keep.{bit, keep, count}
 use Rattle.lists.proofs.Laws.{length-tab, getD-tab}
 use Rattle.lists.proofs.Front.{getD-front, each-tab}
@@ -18,15 +17,14 @@ use Rattle.index.specs.Arrays.{Arrays}
 use Rattle.index.specs.State.{headerOf, slotAt, stateOf}
 use Rattle.index.specs.Codec.{distance}
 use Rattle.index.specs.Fit.{fit}
-use Rattle.index.specs.Step.{Cell, liveFrom, nearer, candidates}
+use Rattle.index.specs.Step.{Query, Cell, liveFrom, nearer, candidates}
 use Rattle.fit.proofs.Meaning.{meaning}
-use Rattle.held.specs.Held.{below}
 use Rattle.held.proofs.Live.{cellAt}
-use Rattle.distances.specs.Distances.{distanceAt}
-use Rattle.distances.proofs.Distance.{distance-slot, distance-below}
+use Rattle.nearest.specs.Distances.{distanceAt}
+use Rattle.nearest.proofs.Distance.{distance-slot, distance-below}
 use Rattle.nearest.specs.Nearest.{before, isNear, nearMarks}
 use Rattle.nearest.proofs.Nearest.{near-count}
-use Rattle.scan.specs.Scan.{marked}
+use Rattle.scan.specs.Scan.{takesPart}
 use Rattle.asking.proofs.Cells.{cells}
 use Rattle.asking.proofs.Live.{live-cells, live-length}
 
@@ -45,7 +43,7 @@ bit-marked : (b : Bool) → ltb 0 (bit b) ≡ b
 bit-marked true = refl
 bit-marked false = refl
 
-module _ (x : Index) (a : Arrays) (q : List Float) (r : ℕ) where
+module _ (x : Index) (a : Arrays) (q : Query) (r : ℕ) where
   abbrev pub near : ℕ → Bool
   near = isNear (distanceAt (headerOf x) (a .codes) q) (a .alive) (x .n) r
 
@@ -56,7 +54,7 @@ module _ (x : Index) (a : Arrays) (q : List Float) (r : ℕ) where
   cell = cellAt (slotAt (headerOf x) a) (x .n)
 
   abbrev live : List ℕ
-  live = keep (marked (a .alive)) (below (x .n))
+  live = keep (takesPart (a .alive)) (below (x .n))
 
   slot-distance : (i : ℕ) → distance (headerOf x) q (slotAt (headerOf x) a i .code) ≡ distanceAt (headerOf x) (a .codes) q i
   slot-distance i = sym (distance-slot (headerOf x) a q i)
@@ -73,27 +71,27 @@ module _ (x : Index) (a : Arrays) (q : List Float) (r : ℕ) where
       ∙ ap (map cell) (
       (λ k. keep (λ j. ltb (count-map cell (λ c. nearer (headerOf x) q c (cell j)) live k) r) live)
       ∙ (λ k. keep (λ j. ltb (count (λ i. same-before i j k) live) r) live)
-      ∙ keep-both (λ j. ltb (count (λ i. before (distanceAt (headerOf x) (a .codes) q) (a .alive) (x .n) i j) live) r) (marked (a .alive)) (below (x .n))
+      ∙ keep-both (λ j. ltb (count (λ i. before (distanceAt (headerOf x) (a .codes) q) (a .alive) (x .n) i j) live) r) (takesPart (a .alive)) (below (x .n))
       )
 
   -- and so are the slots with such marks
-  module _ (marks : List ℕ) (are : (i : ℕ) → i < x .n → marked marks i ≡ near i) where
+  module _ (marks : List ℕ) (are : (i : ℕ) → i < x .n → takesPart marks i ≡ near i) where
     pub candidates-marked : candidateCells ≡ cells (headerOf x) a marks (x .n)
     candidates-marked =
-        candidates-near ∙ ap (map cell) (sym (keep-same (marked marks) near (below (x .n)) (each-tab (λ i. marked marks i ≡ near i) (λ i. i) (x .n) are)))
+        candidates-near ∙ ap (map cell) (sym (keep-same (takesPart marks) near (below (x .n)) (each-tab (λ i. takesPart marks i ≡ near i) (λ i. i) (x .n) are)))
 
-  pub marks-are : (places : List ℕ) (i : ℕ) → i < x .n → marked (over (nearMarks (distanceAt (headerOf x) (a .codes) q) (a .alive) (x .n) r) places) i ≡ near i
+  pub marks-are : (places : List ℕ) (i : ℕ) → i < x .n → takesPart (over (nearMarks (distanceAt (headerOf x) (a .codes) q) (a .alive) (x .n) r) places) i ≡ near i
   unfolding nearMarks
   marks-are places i l =
       ap (ltb 0) (getD-front (tab (λ i. bit (near i)) (x .n)) places i 0 (rw (length-tab (λ i. bit (near i)) (x .n)) l) ∙ getD-tab (λ i. bit (near i)) (x .n) i 0 l)
       ∙ bit-marked (near i)
 
   -- there are r, or as many as are live
-  pub candidates-count : fit x a ≡ true → length candidateCells ≡ min r (x .live)
-  candidates-count e =
+  pub candidates-count : fit x a ≡ true → x .bits ≡ 4 → length candidateCells ≡ min r (x .live)
+  candidates-count e width =
       let f = meaning x a .yes e .fields in
       let lanes = padded-most (x .«working_dim») (omega (arith, f .working-high, f .dim-high)) in
-      let many = sym (length-map live cell ∙ length-keep (marked (a .alive)) (below (x .n))) ∙ sym (ap length (live-cells x a)) ∙ live-length x a e in
+      let many = sym (length-map live cell ∙ length-keep (takesPart (a .alive)) (below (x .n))) ∙ sym (ap length (live-cells x a)) ∙ live-length x a e in
       ap length candidates-near ∙ length-map (keep near (below (x .n))) cell ∙ length-keep near (below (x .n))
-      ∙ near-count (distanceAt (headerOf x) (a .codes) q) (a .alive) (x .n) (λ i. distance-below (headerOf x) (a .codes) q i lanes) r
+      ∙ near-count (distanceAt (headerOf x) (a .codes) q) (a .alive) (x .n) (λ i. distance-below (headerOf x) (a .codes) q i lanes width) r
       ∙ ap (min r) many

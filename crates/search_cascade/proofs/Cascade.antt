@@ -8,34 +8,33 @@ use lib.Dec.{ltb, eqb}
 use lib.ListN.{length, length-map}
 use lib.Ieee.{Float, isNan}
 use borrow.Author.Tests.{le-leb, lt-ltb, le-ltb, ltb-false, eqb-true, eq-eqb}
-use Rattle.lists.specs.Lists.{over}
-use Rattle.lists.specs.Keep.{keep}
+use Rattle.lists.specs.Lists.{over, below}
+use Rattle.lists.specs.Keep.{keep, any}
 use Rattle.choose.specs.Choose.{choose}
 use Rattle.choose.proofs.Choice.{choose-length}
 use Rattle.score.specs.Order.{orderNumber}
-use Rattle.digits.proofs.Below.{both}
+use Rattle.lists.proofs.Tests.{both}
 use Rattle.index.specs.declared.Index.{Index}
 use Rattle.index.specs.declared.Found.{Found}
 use Rattle.index.specs.declared.Found.the-variants as Found
 use Rattle.index.specs.Arrays.{Arrays}
 use Rattle.index.specs.State.{headerOf, slotAt, stateOf}
 use Rattle.index.specs.Fit.{fit}
-use Rattle.index.specs.Step.{Answer, refused, hits, firstOf, when, unless, any, Cell, liveFrom, hitsOf, rank, bySlot, queryRefusal, shortResult, candidates, wide, searchedCascade, answered, step}
+use Rattle.index.specs.Step.{Hit, Query, Answer, refused, hits, firstOf, when, unless, Cell, liveFrom, hitsOf, rank, bySlot, queryRefusal, shortResult, candidates, wide, searchedCascade, answered, step}
 use Rattle.index.specs.Step as Step
 use Rattle.index.specs.Call.{Result, call}
 use Rattle.index.specs.Answers.{result, filed, files}
 use Rattle.index.proofs.Calls.{call-misfit, call-answered}
 use Rattle.fit.proofs.Meaning.{meaning}
 use Rattle.fit.proofs.Rooms.{enough}
-use Rattle.held.specs.Held.{below}
 use Rattle.held.proofs.Live.{cellAt}
-use Rattle.distances.specs.Distances.{distanceAt, measurable}
+use Rattle.nearest.specs.Distances.{distanceAt}
 use Rattle.nearest.specs.Nearest.{nearMarks}
 use Rattle.nearest.specs.Nearest as Nearest
 use Rattle.score_slot.specs.Query.{queryFault}
 use Rattle.score_slot.proofs.Query.{query-rotatable}
-use Rattle.scan.specs.Scan.{marked}
-use Rattle.hits.specs.Hits.{entered, chosen, ready, shown, listAnswer}
+use Rattle.scan.specs.Scan.{takesPart}
+use Rattle.hits.specs.Hits.{scoredSlots, chosen, ready, shown, listAnswer}
 use Rattle.asking.specs.Faults.{placesFault}
 use Rattle.asking.proofs.Cells.{scores, cells, hits-listed}
 use Rattle.asking.proofs.Live.{live-length}
@@ -45,7 +44,7 @@ use Rattle.search_cascade.proofs.Candidates.{near, candidates-marked, c
 
 -- ---- the tests one by one
 
-module _ (x : Index) (a : Arrays) (q : List Float) (k places n : ℕ) where
+module _ (x : Index) (a : Arrays) (q : Query) (k places n : ℕ) where
   abbrev placesTest : ℕ
   placesTest = placesFault x a k places
 
@@ -79,7 +78,10 @@ module _ (x : Index) (a : Arrays) (q : List Float) (k places n : ℕ) where
 within : (wanted some all places : ℕ) {n : ℕ} → n ≡ min wanted (min some all) → min wanted all ≤ places → n ≤ places
 within wanted some all places e l = omega arith
 
-module _ (x : Index) (a : Arrays) (q : List Float) (k r places : ℕ) where
+at-four : (x : Index) → enabled x ≡ true → x .bits ≡ 4
+at-four x on = eqb-true (x .bits) 4 (both (x .cascade) (eqb (x .bits) 4) on .1)
+
+module _ (x : Index) (a : Arrays) (q : Query) (k r places : ℕ) where
   abbrev many : ℕ
   many = wide k r (x .live)
 
@@ -87,16 +89,16 @@ module _ (x : Index) (a : Arrays) (q : List Float) (k r places : ℕ) where
   liveCells = liveFrom 0 (stateOf x a .slots)
 
   -- marks of the candidates
-  module _ (marks : List ℕ) (are : (i : ℕ) → i < x .n → marked marks i ≡ near x a q many i) where
+  module _ (marks : List ℕ) (are : (i : ℕ) → i < x .n → takesPart marks i ≡ near x a q many i) where
     abbrev candidateHits : List (ℕ × Float)
     candidateHits = chosen (scores (headerOf x) a q) marks (x .n) k
 
     abbrev nanFound : Bool
-    nanFound = any (λ e. isNan (e .1)) (entered (scores (headerOf x) a q) marks (x .n))
+    nanFound = any (λ e. isNan (e .1)) (scoredSlots (scores (headerOf x) a q) marks (x .n))
 
-    module _ (e : fit x a ≡ true) where
+    module _ (e : fit x a ≡ true) (on : enabled x ≡ true) where
       cells-count : length (cells (headerOf x) a marks (x .n)) ≡ min many (x .live)
-      cells-count = ap length (sym (candidates-marked x a q many marks are)) ∙ candidates-count x a q many e
+      cells-count = ap length (sym (candidates-marked x a q many marks are)) ∙ candidates-count x a q many e (at-four x on)
 
       some-live : ltb 0 (length (cells (headerOf x) a marks (x .n))) ≡ ltb 0 (x .live)
       some-live = ap (ltb 0) cells-count ∙ go (x .live)
@@ -141,10 +143,27 @@ module _ (x : Index) (a : Arrays) (q : List Float) (k r places : ℕ) where
 
   -- ---- refused before any score
 
+  -- not enabled, 11 comes before what the candidates would say
+  idle-answer : fit x a ≡ true → enabled x ≡ false → searchedCascade (stateOf x a) liveCells q k r places ≡ refused (cascadeFault x a q k places)
+  unfolding searchedCascade stateOf cascadeFault placesFault firstOf
+  idle-answer e off =
+      let h = headerOf x in
+      let s = shortResult k (x .live) places in
+      let f = queryFault h (ltb 0 (x .live)) q in
+      let found : ℕ → List Hit = λ n. hitsOf h q (candidates h q (wide k r n) liveCells) in
+      let shown : ℕ → Answer = λ n. hits (map bySlot (choose rank k (found n))) in
+      (λ j. let n = live-length x a e j in unless (firstOf (shortResult k n places ∷ when (not (off j)) 11 ∷ queryRefusal h q (found n) ∷ [])) (shown n))
+      ∙ go s (queryRefusal h q (found (x .live))) f (shown (x .live))
+      ∙ (λ j. refused (firstOf (firstOf (when (not (sym e j)) 13 ∷ s ∷ []) ∷ when (not (sym off j)) 11 ∷ f ∷ [])))
+    where
+      go : (s w f : ℕ) (o : Answer) → unless (firstOf (s ∷ 11 ∷ w ∷ [])) o ≡ refused (firstOf (firstOf (0 ∷ s ∷ []) ∷ 11 ∷ f ∷ []))
+      go zero w f o = refl
+      go (suc s) w f o = refl
+
   module _ (f : ℕ) (is : f ≡ cascadeFault x a q k places) (ns : List ℕ) (ss : List Float) where
     pub cascade-refused : (f ≡ 0 → ⊥) → filed x a (Found.Refused f) ns ss ≡ files (call x a (Step.searchCascade q k r places)) ns ss
-    unfolding cascadeFault placesFault firstOf
-    cascade-refused some = ap (λ (o : Result). files o ns ss) (go (fit x a) refl)
+    unfolding cascadeFault placesFault firstOf step
+    cascade-refused some = ap (λ (o : Result). files o ns ss) (go (fit x a) (enabled x) refl refl)
       where
         first : (m w : ℕ) (o : Answer) → (m ≡ 0 → ⊥) → unless (firstOf (m ∷ w ∷ [])) o ≡ refused m
         first zero w o s = absurd (s refl)
@@ -153,15 +172,17 @@ module _ (x : Index) (a : Arrays) (q : List Float) (k r places : ℕ) where
         marks : List ℕ
         marks = over (nearMarks (distanceAt (headerOf x) (a .codes) q) (a .alive) (x .n) many) []
 
-        are : (i : ℕ) → i < x .n → marked marks i ≡ near x a q many i
+        are : (i : ℕ) → i < x .n → takesPart marks i ≡ near x a q many i
         are = marks-are x a q many []
 
-        go : (b : Bool) → fit x a ≡ b → result x a (refused f) ≡ call x a (Step.searchCascade q k r places)
-        go true e =
-            by-tests marks are e (refused f)
+        go : (b c : Bool) → fit x a ≡ b → enabled x ≡ c → result x a (refused f) ≡ call x a (Step.searchCascade q k r places)
+        go true true e on =
+            by-tests marks are e on (refused f)
             (ap (λ (m : ℕ). unless (firstOf (m ∷ when (nanFound marks are) 12 ∷ [])) (hits (candidateHits marks are))) (sym is)
             ∙ first f (when (nanFound marks are) 12) (hits (candidateHits marks are)) some)
-        go false e = ap (λ (m : ℕ). result x a (refused m)) (is ∙ rw e refl) ∙ sym (call-misfit x a (Step.searchCascade q k r places) e)
+        go true false e off =
+            sym (call-answered x a (Step.searchCascade q k r places) e (refused f) (ap (answered (stateOf x a)) (idle-answer e off ∙ ap refused (sym is))))
+        go false c e o = ap (λ (m : ℕ). result x a (refused m)) (is ∙ rw e refl) ∙ sym (call-misfit x a (Step.searchCascade q k r places) e)
 
     -- ---- or not
 
@@ -180,28 +201,28 @@ module _ (x : Index) (a : Arrays) (q : List Float) (k r places : ℕ) where
       passed = parts (fit x a) (enabled x) refl refl _ _ (sym is ∙ zeroed)
 
       -- what marking the candidates asks for
-      marking-ready : (old : List ℕ) → length old ≡ 65536 → Nearest.ready (x .n) (length old) (x .bits) (x .«working_dim») (length q) ≡ true
-      unfolding Nearest.ready measurable
+      marking-ready : (old : List ℕ) → length old ≡ 65536 → Nearest.cascadable (x .n) (length old) (x .bits) (x .«working_dim») (length (q .vector)) ≡ true
+      unfolding Nearest.cascadable
       marking-ready old size =
           let few = enough (headerOf x) a (x .n) (meaning x a .yes (passed .0) .room) .few in
-          rw (size, le-leb (x .n) 65536 few, eq-eqb (x .bits) 4 (eqb-true (x .bits) 4 (both (x .cascade) (eqb (x .bits) 4) (passed .1) .1)))
+          rw (size, le-leb (x .n) 65536 few, eq-eqb (x .bits) 4 (at-four x (passed .1)))
           (query-rotatable x a (passed .0) (ltb 0 (x .live)) q (passed .3))
 
       -- after marking, and after `hits::list` by these marks
       module _ (old marks : List ℕ) (size : length old ≡ 65536) (n : ℕ) (wanted : n ≡ many)
-          (set : marks ≡ cond (Nearest.ready (x .n) (length old) (x .bits) (x .«working_dim») (length q))
+          (set : marks ≡ cond (Nearest.cascadable (x .n) (length old) (x .bits) (x .«working_dim») (length (q .vector)))
           (over (nearMarks (distanceAt (headerOf x) (a .codes) q) (a .alive) (x .n) n) old) old) where
-        marks-set : (i : ℕ) → i < x .n → marked marks i ≡ near x a q many i
+        marks-set : (i : ℕ) → i < x .n → takesPart marks i ≡ near x a q many i
         marks-set i l =
             let e : marks ≡ over (nearMarks (distanceAt (headerOf x) (a .codes) q) (a .alive) (x .n) many) old = set ∙ rw (marking-ready old size, wanted) in
-            ap (λ (ms : List ℕ). marked ms i) e ∙ marks-are x a q many old i l
+            ap (λ (ms : List ℕ). takesPart ms i) e ∙ marks-are x a q many old i l
 
         listed-length : length (candidateHits marks marks-set) ≡ min (max k 1) (min many (x .live))
-        unfolding entered
+        unfolding scoredSlots
         listed-length =
-            choose-length (λ (e : ℕ × Float). orderNumber (e .1)) k (entered (scores (headerOf x) a q) marks (x .n))
-            ∙ ap (min (max k 1)) (length-map (keep (marked marks) (below (x .n))) (λ (i : ℕ). (i, scores (headerOf x) a q i))
-            ∙ sym (length-map (keep (marked marks) (below (x .n))) (cellAt (slotAt (headerOf x) a) (x .n))) ∙ cells-count marks marks-set (passed .0))
+            choose-length (λ (e : ℕ × Float). orderNumber (e .1)) k (scoredSlots (scores (headerOf x) a q) marks (x .n))
+            ∙ ap (min (max k 1)) (length-map (keep (takesPart marks) (below (x .n))) (λ (i : ℕ). (i, scores (headerOf x) a q i))
+            ∙ sym (length-map (keep (takesPart marks) (below (x .n))) (cellAt (slotAt (headerOf x) a) (x .n))) ∙ cells-count marks marks-set (passed .0) (passed .1))
 
         listed-fits : length (candidateHits marks marks-set) ≤ places
         listed-fits = go (ltb places (min (max k 1) (x .live))) refl (passed .2)
@@ -211,7 +232,7 @@ module _ (x : Index) (a : Arrays) (q : List Float) (k r places : ℕ) where
             go false l g = within (max k 1) many (x .live) places listed-length (ltb-false places (min (max k 1) (x .live)) l)
 
         abbrev can : Bool
-        can = ready (x .n) (x .bits) (x .«working_dim») (length q)
+        can = ready (x .n) (x .bits) (x .«working_dim») (length (q .vector))
 
         pub cascade-listed : (found : Found) (ms : List ℕ) (ts : List Float) →
             found ≡ listAnswer (scores (headerOf x) a q) marks (x .n) can k places →
@@ -223,7 +244,7 @@ module _ (x : Index) (a : Arrays) (q : List Float) (k r places : ℕ) where
             let o = hits (candidateHits marks marks-set) in
             list-files (scores (headerOf x) a q) marks (x .n) can k places
             (is-ready x a (passed .0) (ltb 0 (x .live)) q (passed .3)) listed-fits x a found ns ms ss ts g h i
-            ∙ ap (λ (o : Result). files o ns ss) (by-tests marks marks-set (passed .0) (unless (when (nanFound marks marks-set) 12) o)
+            ∙ ap (λ (o : Result). files o ns ss) (by-tests marks marks-set (passed .0) (passed .1) (unless (when (nanFound marks marks-set) 12) o)
             (ap (λ (m : ℕ). unless (firstOf (m ∷ when (nanFound marks marks-set) 12 ∷ [])) o) (sym is ∙ zeroed) ∙ last (nanFound marks marks-set) o))
           where
             last : (b : Bool) (o : Answer) → unless (firstOf (0 ∷ when b 12 ∷ [])) o ≡ unless (when b 12) o

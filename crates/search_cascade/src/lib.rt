@@ -4,6 +4,7 @@ ghost use Prim.Native.Nat.{min};
 ghost use lib.ListN.{length};
 ghost use Rattle.index.specs.Arrays.{lent};
 ghost use Rattle.index.specs.Step as Step;
+ghost use Rattle.index.specs.Step.{queryOf};
 ghost use Rattle.index.specs.Call.{call};
 ghost use Rattle.index.specs.Answers.{filed, files};
 ghost use Rattle.search_cascade.specs.Cascade.{enabled, cascadeFault};
@@ -40,7 +41,7 @@ fn cascade_fault(
 ) -> u8
     ensures { λ r. ⌜
         r ≡ cascadeFault index (lent (codes .entry) (scales .entry) (keys .entry) (keyed .entry) (held .entry) (alive .entry) (codes2 .entry) (scales2 .entry))
-        (now (query .entry)) k (min slots scores) ⌝ }
+        (queryOf (now (query .entry))) k (min slots scores) ⌝ }
 {
     let fault = asking::places_fault(
         index,
@@ -115,7 +116,7 @@ pub fn search_cascade(
         filed index (lent (codes .entry) (scales .entry) (keys .entry) (keyed .entry) (held .entry) (alive .entry) (codes2 .entry) (scales2 .entry))
         found (now (slots .exit)) (now (scores .exit))
         ≡ files (call index (lent (codes .entry) (scales .entry) (keys .entry) (keyed .entry) (held .entry) (alive .entry) (codes2 .entry) (scales2 .entry))
-        (Step.searchCascade (now (query .entry)) k r (min (length (now (slots .entry))) (length (now (scores .entry))))))
+        (Step.searchCascade (queryOf (now (query .entry))) k r (min (length (now (slots .entry))) (length (now (scores .entry))))))
         (now (slots .entry)) (now (scores .entry)) ⌝ }
 {
     let fault = cascade_fault(

@@ -4,8 +4,9 @@ ghost use Prim.Native.Nat.{min};
 ghost use lib.ListN.{length};
 ghost use Rattle.index.specs.Arrays.{lent};
 ghost use Rattle.index.specs.Step as Step;
+ghost use Rattle.index.specs.Step.{queryOf};
 ghost use Rattle.words.specs.Put.{put};
-ghost use Rattle.words.specs.Exports.{listed, lists};
+ghost use Rattle.words.specs.Exports.{hitsLeft, lists};
 use words::Record;
 
 #[no_mangle]
@@ -26,8 +27,8 @@ pub extern "C" fn vecq_search(
     scores: &mut [f32],
 ) -> u8
     ensures { λ r. let a = lent (codes .entry) (scales .entry) (keys .entry) (keyed .entry) (held .entry) (alive .entry) (codes2 .entry) (scales2 .entry) in
-        let op = Step.search (now (query .entry)) k (min (length (now (slots .entry))) (length (now (scores .entry)))) in
-        ⌜ listed (put r (now (answer .exit))) (now (slots .exit)) (now (scores .exit))
+        let op = Step.search (queryOf (now (query .entry))) k (min (length (now (slots .entry))) (length (now (scores .entry)))) in
+        ⌜ hitsLeft (put r (now (answer .exit))) (now (slots .exit)) (now (scores .exit))
         ≡ lists op a (now (fields .entry)) (now (answer .entry)) (now (slots .entry)) (now (scores .entry)) ⌝ }
 {
     let Record::Fields(index) = words::record_beside(fields, answer) else {
@@ -48,7 +49,7 @@ pub extern "C" fn vecq_search(
         slots,
         scores,
     );
-    words::put_found(found, answer)
+    answer_words::put_found(found, answer)
 }
 
 #[no_mangle]
@@ -69,8 +70,8 @@ pub extern "C" fn vecq_search_keyed(
     scores: &mut [f32],
 ) -> u8
     ensures { λ r. let a = lent (codes .entry) (scales .entry) (keys .entry) (keyed .entry) (held .entry) (alive .entry) (codes2 .entry) (scales2 .entry) in
-        let op = Step.searchKeyed (now (query .entry)) k (min (length (now (names .entry))) (length (now (scores .entry)))) in
-        ⌜ listed (put r (now (answer .exit))) (now (names .exit)) (now (scores .exit))
+        let op = Step.searchKeyed (queryOf (now (query .entry))) k (min (length (now (names .entry))) (length (now (scores .entry)))) in
+        ⌜ hitsLeft (put r (now (answer .exit))) (now (names .exit)) (now (scores .exit))
         ≡ lists op a (now (fields .entry)) (now (answer .entry)) (now (names .entry)) (now (scores .entry)) ⌝ }
 {
     let Record::Fields(index) = words::record_beside(fields, answer) else {
@@ -91,7 +92,7 @@ pub extern "C" fn vecq_search_keyed(
         names,
         scores,
     );
-    words::put_found(found_keyed, answer)
+    answer_words::put_found(found_keyed, answer)
 }
 
 #[no_mangle]
@@ -112,9 +113,10 @@ pub extern "C" fn vecq_search_cascade(
     slots: &mut [u32],
     scores: &mut [f32],
 ) -> u8
-    ensures { λ number. let a = lent (codes .entry) (scales .entry) (keys .entry) (keyed .entry) (held .entry) (alive .entry) (codes2 .entry) (scales2 .entry) in
-        let op = Step.searchCascade (now (query .entry)) k r (min (length (now (slots .entry))) (length (now (scores .entry)))) in
-        ⌜ listed (put number (now (answer .exit))) (now (slots .exit)) (now (scores .exit))
+    ensures { λ number.
+        let a = lent (codes .entry) (scales .entry) (keys .entry) (keyed .entry) (held .entry) (alive .entry) (codes2 .entry) (scales2 .entry) in
+        let op = Step.searchCascade (queryOf (now (query .entry))) k r (min (length (now (slots .entry))) (length (now (scores .entry)))) in
+        ⌜ hitsLeft (put number (now (answer .exit))) (now (slots .exit)) (now (scores .exit))
         ≡ lists op a (now (fields .entry)) (now (answer .entry)) (now (slots .entry)) (now (scores .entry)) ⌝ }
 {
     let Record::Fields(index) = words::record_beside(fields, answer) else {
@@ -136,5 +138,5 @@ pub extern "C" fn vecq_search_cascade(
         slots,
         scores,
     );
-    words::put_found(found_cascade, answer)
+    answer_words::put_found(found_cascade, answer)
 }

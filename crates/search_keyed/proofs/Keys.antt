@@ -3,23 +3,23 @@ use mathlib.Core.Path.{_≡_, refl, sym, ap, _∙_}
 use mathlib.Core.Bool.{Bool, true, false}
 use mathlib.Core.List.{List, [], _∷_, map}
 use mathlib.Core.Option.{none}
-use Prim.Native.Nat.{ℕ, suc, _-_, _≤_, _<_, min}
+use Prim.Native.Nat.{ℕ, suc, _-_, _≤_, _<_, min, max}
 use native.Mathlib.Nat.{sub-zero}
 use native.Mathlib.Omega.{arith}
-use lib.ListN.{length, take, drop, length-map}
-use lib.Seq.{take-append-seam}
+use lib.ListN.{length, take, length-map}
 use lib.Dec.{ltb}
 use lib.Ieee.{Float}
 use borrow.Author.Tests.{le-leb}
 use Rattle.lists.specs.Lists.{zipWith, over}
 use Rattle.lists.specs.Keep.{Each}
+use Rattle.lists.proofs.Front.{take-over}
 use Rattle.index.specs.declared.Index.{Index}
 use Rattle.index.specs.declared.Found.{Found}
 use Rattle.index.specs.declared.Found.the-variants as Found
 use Rattle.index.specs.Arrays.{Arrays}
 use Rattle.index.specs.State.{headerOf, stateOf}
 use Rattle.index.specs.Fit.{fit}
-use Rattle.index.specs.Step.{Hit, Answer, keyHits, when, liveFrom, byKey, keyOfMark, searched, answered, step}
+use Rattle.index.specs.Step.{Query, Hit, Answer, keyHits, when, liveFrom, byKey, keyOfMark, searched, answered, step}
 use Rattle.index.specs.Step as Step
 use Rattle.index.specs.Call.{Result, call}
 use Rattle.index.specs.Answers.{result, Filed, filed, files}
@@ -30,7 +30,7 @@ use Rattle.search_keyed.specs.Named.{hitCount, keyedOf, namedAnswer}
 use Rattle.asking.specs.Faults.{searchFault}
 use Rattle.asking.proofs.Cells.{scores, hit, chosen-low}
 use Rattle.asking.proofs.Answers.{is-ready, nan-answer, sound-answer, sound-shown}
-use Rattle.asking.proofs.Searched.{liveNan, liveChosen, shownBy, searched-fits, searched-query, chosen-places, chosen-few, search-refused, search-listed}
+use Rattle.asking.proofs.Searched.{liveNan, liveChosen, shownBy, searched-fits, searched-query, chosen-length, chosen-places, chosen-few, search-refused, search-listed}
 
 -- one more than the hits that are answered, 0 for a refusal
 abbrev hitsIn : Found → ℕ
@@ -39,11 +39,6 @@ hitsIn (Found.Refused n) = 0
 
 abbrev byKeys : List Hit → Answer
 byKeys xs = keyHits (byKey [] xs)
-
--- the first places of an array that a list was written over
-front : {X : Type 0} (ys xs : List X) (m : ℕ) → m ≡ length ys → take m (over ys xs) ≡ ys
-unfolding over
-front ys xs m e = rw e (take-append-seam ys (drop (length ys) xs))
 
 -- the listed slots with the keys that the arrays have for them, as the step has them
 slots-hits : (x : Index) (a : Arrays) → fit x a ≡ true → (es : List (ℕ × Float)) → Each (λ y. y .0 < x .n) es →
@@ -86,7 +81,7 @@ module _ (keys : List ℕ) (keyed : List Bool) (us : List ℕ) (ws : List Float)
     ),
   )
 
-module _ (x : Index) (a : Arrays) (q : List Float) (k places : ℕ) where
+module _ (x : Index) (a : Arrays) (q : Query) (k places : ℕ) where
   is : (room : ℕ) → step room (stateOf x a) (Step.searchKeyed q k places) ≡
       answered (stateOf x a) (searched (headerOf x) (liveFrom 0 (stateOf x a .slots)) q k places byKeys)
   unfolding step stateOf
@@ -96,7 +91,7 @@ module _ (x : Index) (a : Arrays) (q : List Float) (k places : ℕ) where
   listed = liveChosen x a q k
 
   abbrev can : Bool
-  can = ready (x .n) (x .bits) (x .«working_dim») (length q)
+  can = ready (x .n) (x .bits) (x .«working_dim») (length (q .vector))
 
   -- f is the number that the tests gave
   module _ (f : ℕ) (e : f ≡ searchFault x a q k places) where
@@ -104,12 +99,12 @@ module _ (x : Index) (a : Arrays) (q : List Float) (k places : ℕ) where
     keys-refused some ns ss = ap (λ (y : Result). files y ns ss) (search-refused x a q k places (Step.searchKeyed q k places) byKeys is f e some)
 
   -- Where the tests found no fault: after `hits::list` into working arrays of `room` places.
-  module _ (accepted : searchFault x a q k places ≡ 0) (room : ℕ) (wide : min places 65536 ≤ room) where
-    few : length listed ≤ room
-    few = omega (arith, wide, chosen-places x a q k places accepted, chosen-few x a q k places accepted)
-
+  module _ (accepted : searchFault x a q k places ≡ 0) (room : ℕ) (wide : min (min (max k 1) (x .live)) 65536 ≤ room) where
     fits : fit x a ≡ true
     fits = searched-fits x a q k places accepted
+
+    few : length listed ≤ room
+    few = omega (arith, wide, chosen-length x a q k places fits, chosen-few x a q k places accepted)
 
     yes : can ≡ true
     yes = is-ready x a fits (ltb 0 (x .live)) q (searched-query x a q k places accepted)
@@ -140,7 +135,7 @@ module _ (x : Index) (a : Arrays) (q : List Float) (k places : ℕ) where
       first-of t part before after i =
           ap (take (length listed)) (i ∙ ap (λ (es : List (ℕ × Float)). over (map part es) before)
           (sound-shown (scores (headerOf x) a q) (a .alive) (x .n) can k room yes t few))
-          ∙ front (map part listed) before (length listed) (sym (length-map listed part))
+          ∙ take-over (map part listed) before (length listed) (sym (length-map listed part))
 
       -- the keys that are written after an answer
       abbrev written : Found → List (ℕ × Float)

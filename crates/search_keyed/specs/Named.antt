@@ -1,17 +1,11 @@
 -- A keyed search by way of a list of hits (document 01, store.rs: "`search_keyed` drops unkeyed hits and repeats").
-use mathlib.Core.Path.{_≡_}
 use mathlib.Core.Bool.{Bool}
 use mathlib.Core.List.{List, []}
-use Prim.Native.Nat.{ℕ, min}
+use Prim.Native.Nat.{ℕ}
 use lib.ListN.{length, take}
 use lib.Ieee.{Float}
-use Rattle.index.specs.declared.Index.{Index}
 use Rattle.index.specs.declared.Found.{Found}
 use Rattle.index.specs.declared.Found.the-variants as Found
-use Rattle.index.specs.Arrays.{Arrays}
-use Rattle.index.specs.Step as Step
-use Rattle.index.specs.Call.{call}
-use Rattle.index.specs.Answers.{filed, files}
 use Rattle.distinct.specs.Distinct.{keyedShown}
 
 -- how many hits are listed: none by a refusal
@@ -28,9 +22,3 @@ keyedOf keys keyed slots scores places (Found.Refused n) = []
 abbrev pub namedAnswer : Found → List (ℕ × Float) → Found
 namedAnswer (Found.Hits m) es = Found.Hits (length es)
 namedAnswer (Found.Refused n) es = Found.Refused n
-
--- what the call promises of its answer `r` and of the results that it leaves
-abbrev pub Files : Index → Arrays → (query : List Float) → (k : ℕ) → (names₀ : List ℕ) → (scores₀ : List Float) →
-    (r : Found) → (names : List ℕ) → (scores : List Float) → Type 0
-Files x a q k names₀ scores₀ r names scores =
-    filed x a r names scores ≡ files (call x a (Step.searchKeyed q k (min (length names₀) (length scores₀)))) names₀ scores₀

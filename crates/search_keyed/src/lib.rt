@@ -6,10 +6,10 @@ ghost use lib.ListN.{length};
 ghost use Rattle.lists.specs.Lists.{over};
 ghost use Rattle.index.specs.Arrays.{lent};
 ghost use Rattle.index.specs.Step as Step;
+ghost use Rattle.index.specs.Step.{queryOf};
 ghost use Rattle.index.specs.Call.{call};
 ghost use Rattle.index.specs.Answers.{filed, files};
-ghost use Rattle.asking.specs.Faults.{searchFault};
-ghost use Rattle.search_keyed.specs.Named.{hitCount, keyedOf, namedAnswer, Files};
+ghost use Rattle.search_keyed.specs.Named.{hitCount, keyedOf, namedAnswer};
 use index::Found;
 use index::Index;
 
@@ -56,83 +56,6 @@ fn name_hits(
     Found::Hits(n)
 }
 
-// An accepted search for at most 1,024 keys: clearing working arrays for 65,536 would take longer than the search.
-fn search_few(
-    index: Index,
-    codes: &[u8],
-    scales: &[u32],
-    keys: &[u64],
-    keyed: &[bool],
-    held: &[u32],
-    alive: &[u8],
-    codes2: &[u8],
-    scales2: &[u32],
-    query: &[f32],
-    k: usize,
-    names: &mut [u64],
-    scores: &mut [f32],
-) -> Found
-    requires { ⌜ searchFault index (lent codes scales keys keyed held alive codes2 scales2) (now query) k (min (length (now names)) (length (now scores))) ≡ 0 ⌝ }
-    requires { ⌜ min (length (now names)) (length (now scores)) ≤ 1024 ⌝ }
-    ensures { λ r. ⌜
-        Files index (lent (codes .entry) (scales .entry) (keys .entry) (keyed .entry) (held .entry) (alive .entry) (codes2 .entry) (scales2 .entry))
-        (now (query .entry)) k (now (names .entry)) (now (scores .entry)) r (now (names .exit)) (now (scores .exit)) ⌝ }
-{
-    let mut slots = few_numbers();
-    let mut found = few_scores();
-    let listed = hits::list(
-        index,
-        codes,
-        scales,
-        codes2,
-        scales2,
-        alive,
-        query,
-        k,
-        &mut slots,
-        &mut found,
-    );
-    name_hits(listed, keys, keyed, &slots, &found, names, scores)
-}
-
-// An accepted search for any number of keys.
-fn search_many(
-    index: Index,
-    codes: &[u8],
-    scales: &[u32],
-    keys: &[u64],
-    keyed: &[bool],
-    held: &[u32],
-    alive: &[u8],
-    codes2: &[u8],
-    scales2: &[u32],
-    query: &[f32],
-    k: usize,
-    names: &mut [u64],
-    scores: &mut [f32],
-) -> Found
-    requires { ⌜ searchFault index (lent codes scales keys keyed held alive codes2 scales2) (now query) k (min (length (now names)) (length (now scores))) ≡ 0 ⌝ }
-    ensures { λ r. ⌜
-        Files index (lent (codes .entry) (scales .entry) (keys .entry) (keyed .entry) (held .entry) (alive .entry) (codes2 .entry) (scales2 .entry))
-        (now (query .entry)) k (now (names .entry)) (now (scores .entry)) r (now (names .exit)) (now (scores .exit)) ⌝ }
-{
-    let mut slots = slot_numbers();
-    let mut found = slot_scores();
-    let listed = hits::list(
-        index,
-        codes,
-        scales,
-        codes2,
-        scales2,
-        alive,
-        query,
-        k,
-        &mut slots,
-        &mut found,
-    );
-    name_hits(listed, keys, keyed, &slots, &found, names, scores)
-}
-
 // Writes the keys and scores to the first places of `names` and `scores`, and answers how many they are: fewer than k where hits have no key or a key twice.
 // Refused by 13, 1, 2, 3, 10 and 12 in this order: the result needs as many places as in a search, and a slot without a key counts for 12.
 pub fn search_keyed(
@@ -154,7 +77,7 @@ pub fn search_keyed(
         filed index (lent (codes .entry) (scales .entry) (keys .entry) (keyed .entry) (held .entry) (alive .entry) (codes2 .entry) (scales2 .entry))
         r (now (names .exit)) (now (scores .exit))
         ≡ files (call index (lent (codes .entry) (scales .entry) (keys .entry) (keyed .entry) (held .entry) (alive .entry) (codes2 .entry) (scales2 .entry))
-        (Step.searchKeyed (now (query .entry)) k (min (length (now (names .entry))) (length (now (scores .entry))))))
+        (Step.searchKeyed (queryOf (now (query .entry))) k (min (length (now (names .entry))) (length (now (scores .entry))))))
         (now (names .entry)) (now (scores .entry)) ⌝ }
 {
     let fault = asking::search_fault(
@@ -175,36 +98,37 @@ pub fn search_keyed(
     if fault != 0 {
         return Found::Refused(fault);
     }
-    if names.len() <= 1024 {
-        return search_few(
+    // Clearing working arrays for 65,536 hits would take longer than a search for a few.
+    if asking::places_needed(k, index.live) <= 1024 {
+        let mut slots = few_numbers();
+        let mut found = few_scores();
+        let listed = hits::list(
             index,
             codes,
             scales,
-            keys,
-            keyed,
-            held,
-            alive,
             codes2,
             scales2,
+            alive,
             query,
             k,
-            names,
-            scores,
+            &mut slots,
+            &mut found,
         );
+        return name_hits(listed, keys, keyed, &slots, &found, names, scores);
     }
-    search_many(
+    let mut slots = slot_numbers();
+    let mut found = slot_scores();
+    let listed = hits::list(
         index,
         codes,
         scales,
-        keys,
-        keyed,
-        held,
-        alive,
         codes2,
         scales2,
+        alive,
         query,
         k,
-        names,
-        scores,
-    )
+        &mut slots,
+        &mut found,
+    );
+    name_hits(listed, keys, keyed, &slots, &found, names, scores)
 }

@@ -17,7 +17,7 @@ use Rattle.lists.proofs.Laws.{getD-default, tab-getD, length-over, begun}
 use Rattle.lists.proofs.Keep.{each-weaken, keep-all, length-numbered, getD-numbered, unnumbered}
 use Rattle.lists.proofs.Front.{map-tab, tab-is, each-map, map-each}
 use Rattle.choose.proofs.Choice.{choose-map}
-use Rattle.choose_slots.specs.Slots.{entered, listed, answered}
+use Rattle.choose_slots.specs.Slots.{takingPart, listed, listedWithin}
 use Rattle.shortlist.specs.Shortlist.{shortened}
 use Rattle.shortlist.proofs.Among.{all-reach, choose-live}
 
@@ -83,8 +83,8 @@ module _ (orders : List ℕ) (k n t : ℕ) (least : n ≡ max k 1) (positive : 0
       each-map (λ o. ltb 0 o ≡ true) ord short
       (each-weaken (λ e. leb t (ord e) ≡ true) (λ e. ltb 0 (ord e) ≡ true) short (λ e h. lt-ltb 0 (ord e) (omega (arith, leb-true t (ord e) h))) (all-reach ord n t (numbered 0 orders)))
 
-  all-entered : entered (map ord short) ≡ numbered 0 (map ord short)
-  unfolding entered
+  all-entered : takingPart (map ord short) ≡ numbered 0 (map ord short)
+  unfolding takingPart
   all-entered =
       keep-all (λ (e : ℕ × ℕ). ltb 0 (e .1)) (numbered 0 (map ord short))
       (map-each (λ o. ltb 0 o ≡ true) ord (numbered 0 (map ord short)) (rw (unnumbered 0 (map ord short)) all-live))
@@ -94,13 +94,13 @@ module _ (orders : List ℕ) (k n t : ℕ) (least : n ≡ max k 1) (positive : 0
     name i = getD (map slot short) i 0
 
     listed-short : map name (listed (map ord short) k) ≡ listed orders k
-    unfolding listed entered
+    unfolding listed takingPart
     listed-short =
         ap (λ (es : List (ℕ × ℕ)). map name (map slot (choose ord k es))) all-entered ∙ led-back short k ∙
         ap (map slot) (choose-live ord k n t (numbered 0 orders) least positive enough)
 
-    answered-short : length orders ≤ 65536 → length short ≤ 65536 → (slots : List ℕ) → map name (answered (map ord short) k slots) ≡ answered orders k slots
-    unfolding answered
+    answered-short : length orders ≤ 65536 → length short ≤ 65536 → (slots : List ℕ) → map name (listedWithin (map ord short) k slots) ≡ listedWithin orders k slots
+    unfolding listedWithin
     answered-short few less slots =
         let same : length (listed (map ord short) k) ≡ length (listed orders k) = sym (length-map (listed (map ord short) k) name) ∙ ap length listed-short in
         rw (le-leb (length orders) 65536 few, length-map short ord, le-leb (length short) 65536 less, same) (go (leb (length (listed orders k)) (length slots)))
@@ -133,11 +133,11 @@ begun-here l d i h = rw (add-zero (length (take i l)), length-take-le i l h) at 
 
 module _ (orders : List ℕ) (k n t m : ℕ) (least : n ≡ max k 1) (positive : 0 < t) (many : m ≡ length (shortened n t orders)) (room : (m ≤ 4096) × ((n ≤ m) ⊎ (t ≡ 1))) (few : length orders ≤ 65536) where
   pub answers : (names₀ numbers₀ : List ℕ) {names numbers : List ℕ} → length names₀ ≡ 4096 → length numbers₀ ≡ 4096 → names ≡ sets names₀ 0 (map slot (shortened n t orders)) → numbers ≡ sets numbers₀ 0 (map ord (shortened n t orders)) →
-      (slots : List ℕ) {r : ℕ} {after : List ℕ} → r ≡ length (answered (take (m - 0) numbers) k slots) → after ≡ over (map (λ i. getD (take (m - 0) names) i 0) (answered (take (m - 0) numbers) k slots)) slots →
-      (r ≡ length (answered orders k slots)) × (after ≡ over (answered orders k slots) slots)
+      (slots : List ℕ) {r : ℕ} {after : List ℕ} → r ≡ length (listedWithin (take (m - 0) numbers) k slots) → after ≡ over (map (λ i. getD (take (m - 0) names) i 0) (listedWithin (take (m - 0) numbers) k slots)) slots →
+      (r ≡ length (listedWithin orders k slots)) × (after ≡ over (listedWithin orders k slots) slots)
   answers names₀ numbers₀ {names} {numbers} l l' p q slots {r} {after} e f =
       let short : List (ℕ × ℕ) = shortened n t orders in
       let front : take (m - 0) names ≡ map slot short = rw p (written-part (map slot short) names₀ (many ∙ sym (length-map short slot)) (omega (arith, room .0))) in
       let front' : take (m - 0) numbers ≡ map ord short = rw q (written-part (map ord short) numbers₀ (many ∙ sym (length-map short ord)) (omega (arith, room .0))) in
-      let same : map (λ i. getD (map slot short) i 0) (answered (map ord short) k slots) ≡ answered orders k slots = answered-short orders k n t least positive (rw many at (room .1)) few (omega (arith, room .0)) slots in
-      (rw front' at e ∙ sym (length-map (answered (map ord short) k slots) (λ i. getD (map slot short) i 0)) ∙ ap length same, rw (front, front', same) at f)
+      let same : map (λ i. getD (map slot short) i 0) (listedWithin (map ord short) k slots) ≡ listedWithin orders k slots = answered-short orders k n t least positive (rw many at (room .1)) few (omega (arith, room .0)) slots in
+      (rw front' at e ∙ sym (length-map (listedWithin (map ord short) k slots) (λ i. getD (map slot short) i 0)) ∙ ap length same, rw (front, front', same) at f)

@@ -10,7 +10,7 @@ ghost use Prim.Native.Nat.{_+_, _*_, _<_, _≤_, max};
 ghost use lib.ListN.{length, getD, set};
 ghost use lib.Seq.{sets};
 ghost use Rattle.lists.specs.Lists.{over};
-ghost use Rattle.choose_slots.specs.Slots.{answered};
+ghost use Rattle.choose_slots.specs.Slots.{listedWithin};
 ghost use Rattle.shortlist.specs.Shortlist.{isKept, shortened};
 
 // A function of its own, so that no proof meets 4,096 zeros.
@@ -145,9 +145,10 @@ fn rename(names: &[u32], slots: &mut [u32])
 
 // The choice over the order numbers of a shortlist, by the names of the slots.
 fn choose_among(names: &[u32], numbers: &[u32], k: usize, slots: &mut [u32]) -> usize
-    ensures { λ r. ⌜ r ≡ length (answered (now (numbers .entry)) k (now (slots .entry))) ⌝ }
+    ensures { λ r. ⌜ r ≡ length (listedWithin (now (numbers .entry)) k (now (slots .entry))) ⌝ }
     ensures { λ r. ⌜
-        now (slots .exit) ≡ over (map (λ i. getD (now (names .entry)) i 0) (answered (now (numbers .entry)) k (now (slots .entry)))) (now (slots .entry)) ⌝ }
+        now (slots .exit) ≡ over (map (λ i. getD (now (names .entry)) i 0) (listedWithin (now (numbers .entry)) k (now (slots .entry))))
+        (now (slots .entry)) ⌝ }
 {
     let n = choose_slots::choose(numbers, k, slots);
     rename(names, &mut slots[0..n]);
@@ -162,8 +163,8 @@ fn at_least_1(k: usize) -> usize
 
 fn choose_few(orders: &[u32], k: usize, slots: &mut [u32]) -> usize
     requires { ⌜ (length (now orders) ≤ 65536) × (k ≤ 65536) ⌝ }
-    ensures { λ r. ⌜ r ≡ length (answered (now (orders .entry)) k (now (slots .entry))) ⌝ }
-    ensures { λ r. ⌜ now (slots .exit) ≡ over (answered (now (orders .entry)) k (now (slots .entry))) (now (slots .entry)) ⌝ }
+    ensures { λ r. ⌜ r ≡ length (listedWithin (now (orders .entry)) k (now (slots .entry))) ⌝ }
+    ensures { λ r. ⌜ now (slots .exit) ≡ over (listedWithin (now (orders .entry)) k (now (slots .entry))) (now (slots .entry)) ⌝ }
 {
     let n = at_least_1(k);
     let t = guess(orders, n);
@@ -191,8 +192,8 @@ fn is_few(k: usize, all: usize) -> bool
 
 // Writes the numbers of the chosen slots to the first places of `slots`, and returns how many there are: what `choose_slots::choose` does.
 pub fn choose(orders: &[u32], k: usize, slots: &mut [u32]) -> usize
-    ensures { λ r. ⌜ r ≡ length (answered (now (orders .entry)) k (now (slots .entry))) ⌝ }
-    ensures { λ r. ⌜ now (slots .exit) ≡ over (answered (now (orders .entry)) k (now (slots .entry))) (now (slots .entry)) ⌝ }
+    ensures { λ r. ⌜ r ≡ length (listedWithin (now (orders .entry)) k (now (slots .entry))) ⌝ }
+    ensures { λ r. ⌜ now (slots .exit) ≡ over (listedWithin (now (orders .entry)) k (now (slots .entry))) (now (slots .entry)) ⌝ }
 {
     if is_few(k, orders.len()) {
         return choose_few(orders, k, slots);

@@ -13,7 +13,7 @@ use lib.Ieee.{Float, fin}
 use lib.IntN.{pos}
 use lib.ListN.{getD}
 use lib.Pow.{pow-pos, pow-mono, shr-le, split, mod-mod-pow}
-use Rattle.signs.specs.Signs.{start, xorRight, xorLeft, step, output, sign, state}
+use Rattle.signs.specs.Signs.{start, xorRight, xorLeft, nextState, output, sign, state}
 
 -- ---- the start, and the sign of an output o
 
@@ -44,8 +44,8 @@ left-lt : (k s : ℕ) → s < 2 ^ 64 → xorLeft k s < 2 ^ 64
 unfolding xorLeft
 left-lt k s h = xor-lt 64 s (s * 2 ^ k % 2 ^ 64) h (mod-lt (s * 2 ^ k) (pow-pos 64))
 
-pub step-lt : (s : ℕ) → s < 2 ^ 64 → step s < 2 ^ 64
-unfolding step
+pub step-lt : (s : ℕ) → s < 2 ^ 64 → nextState s < 2 ^ 64
+unfolding nextState
 step-lt s h = right-lt 27 _ (left-lt 25 _ (right-lt 12 s h))
 
 -- ---- a step comes to 0 only from 0
@@ -74,10 +74,10 @@ left-zero : (k s : ℕ) → s < 2 ^ 64 → xorLeft (suc k) s ≡ 0 → s ≡ 0
 unfolding xorLeft
 left-zero k s h e = sym (mod-eq-of-lt h) ∙ low-zero k 64 s (xor-zero s (s * 2 ^ suc k % 2 ^ 64) e) 64 0 refl
 
-pub step-pos : (s : ℕ) → 0 < s → s < 2 ^ 64 → 0 < step s
-unfolding step
+pub step-pos : (s : ℕ) → 0 < s → s < 2 ^ 64 → 0 < nextState s
+unfolding nextState
 step-pos s p h =
-    let nonzero : step s ≡ 0 → ⊥ = λ e. let z = right-zero 11 s (left-zero 24 _ (right-lt 12 s h) (right-zero 26 _ e)) in omega arith in
+    let nonzero : nextState s ≡ 0 → ⊥ = λ e. let z = right-zero 11 s (left-zero 24 _ (right-lt 12 s h) (right-zero 26 _ e)) in omega arith in
     omega (arith, nonzero)
 
 -- ---- so no state is 0

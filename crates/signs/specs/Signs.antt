@@ -22,8 +22,8 @@ unfoldable pub xorLeft : ℕ → ℕ → ℕ
 xorLeft k s = bitXor s (s * 2 ^ k % 2 ^ 64)
 
 -- The paper's step, with its shifts 12, 25 and 27. 01: "A step xors in the state shifted right 12, left 25 (high bits lost), right 27."
-unfoldable pub step : ℕ → ℕ
-step s = xorRight 27 (xorLeft 25 (xorRight 12 s))
+unfoldable pub nextState : ℕ → ℕ
+nextState s = xorRight 27 (xorLeft 25 (xorRight 12 s))
 
 -- The paper's output, with its multiplier 2685821657736338717. 01: "The output is the state times 0x2545F4914F6CDD1D, the product taken modulo 2^64".
 unfoldable pub output : ℕ → ℕ
@@ -36,7 +36,7 @@ sign o = cond (ltb o (2 ^ 63)) (fin true 1 (pos 0)) (fin false 1 (pos 0))
 -- the state after n steps
 abbrev pub state : ℕ → ℕ → ℕ
 state seed zero = start seed
-state seed (suc n) = step (state seed n)
+state seed (suc n) = nextState (state seed n)
 
 -- sign i of the stream, counted from 0: that of the output after i + 1 steps
 unfoldable pub signAt : ℕ → ℕ → Float

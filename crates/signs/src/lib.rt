@@ -2,7 +2,7 @@
 ghost use mathlib.Core.Path.{_≡_};
 ghost use Prim.Native.Nat.{_*_, _%_, _^_};
 ghost use lib.ListN.{getD};
-ghost use Rattle.signs.specs.Signs.{start, step, output, sign};
+ghost use Rattle.signs.specs.Signs.{start, nextState, output, sign};
 
 // A u64 is two digits to this base, its halves.
 const BASE: u64 = 0x1_0000_0000;
@@ -50,8 +50,8 @@ impl SignStream {
     // A step, and the sign by the top bit of the output. The Rust compares the output's top 53 bits, as a fraction, with 0.5, which is the same test. The bit picks the sign from an array: a
     // jump would be guessed wrong half the time.
     pub fn next_sign(self) -> Signed
-        ensures state { λ r. ⌜ r .stream .state ≡ step (self .state) ⌝ }
-        ensures sign { λ r. ⌜ r .sign ≡ sign (output (step (self .state))) ⌝ }
+        ensures state { λ r. ⌜ r .stream .state ≡ nextState (self .state) ⌝ }
+        ensures sign { λ r. ⌜ r .sign ≡ sign (output (nextState (self .state))) ⌝ }
     {
         let s = self.state;
         let a = s ^ (s >> 12);

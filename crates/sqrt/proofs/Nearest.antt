@@ -3,40 +3,39 @@
 use mathlib.Core.Path.{_≡_, refl, sym, _∙_}
 use mathlib.Core.Bool.{Bool, true, false, cond}
 use Prim.Native.Nat.{ℕ, zero, suc, _+_, _*_, _^_, _≤_, _<_}
-use native.Mathlib.Nat.{le-trans, le-of-eq, le-of-lt, le-of-suc-le-suc, lt-of-not-le, not-le-of-lt, lt-of-lt-of-le, lt-of-le-of-lt}
-use native.Mathlib.Nat.{mul-le-mul-left, mul-lt-mul-of-pos-left, zero-lt-suc}
+use native.Mathlib.Nat.{le-trans, le-of-eq, le-of-lt, le-of-suc-le-suc, lt-of-not-le, not-le-of-lt, lt-of-lt-of-le, lt-of-le-of-lt, mul-le-mul-left, mul-lt-mul-of-pos-left, zero-lt-suc}
 use native.Mathlib.Decide.{decLe}
 use native.Mathlib.Omega.{arith}
 use borrow.Author.Tests.{lt-ltb, le-ltb}
 use Rattle.half.specs.Binary.{infinity}
 use Rattle.half.specs.Nearest.{value}
 use Rattle.half.proofs.Rounding.{value-lt, value-le}
-use Rattle.sqrt.specs.Root.{reaches, last, nearestRoot, NearestRoot}
+use Rattle.sqrt.specs.Root.{rootReaches, lastPassing, nearestRoot, NearestRoot}
 use Rattle.sqrt.proofs.Squares.{square-times, square-le, square-lt}
 
--- ---- `last` gives the number up to which the test is passed and after which it fails
+-- ---- `lastPassing` gives the number up to which the test is passed and after which it fails
 module _ (passes : ℕ → Bool) (g : ℕ) (to : (c : ℕ) → c ≤ g → passes c ≡ true) (after : (c : ℕ) → g < c → passes c ≡ false) where
-  halved : (d s : ℕ) → ((z : ℕ) → z ≤ g → g < z + 2 ^ d → last passes d z ≡ g) → s ≤ g → g < s + 2 ^ suc d → Dec (s + 2 ^ d ≤ g)
-      → last passes d (cond (passes (s + 2 ^ d)) (s + 2 ^ d) s) ≡ g
+  halved : (d s : ℕ) → ((z : ℕ) → z ≤ g → g < z + 2 ^ d → lastPassing passes d z ≡ g) → s ≤ g → g < s + 2 ^ suc d → Dec (s + 2 ^ d ≤ g)
+      → lastPassing passes d (cond (passes (s + 2 ^ d)) (s + 2 ^ d) s) ≡ g
   halved d s rest a b (yes h) = rw (to (s + 2 ^ d) h) (rest (s + 2 ^ d) h (omega arith))
   halved d s rest a b (no f) = rw (after (s + 2 ^ d) (lt-of-not-le f)) (rest s a (lt-of-not-le f))
 
-  last-is : (d s : ℕ) → s ≤ g → g < s + 2 ^ d → last passes d s ≡ g
-  unfolding last
+  last-is : (d s : ℕ) → s ≤ g → g < s + 2 ^ d → lastPassing passes d s ≡ g
+  unfolding lastPassing
   last-is zero s a b = omega arith
   last-is (suc d) s a b = halved d s (last-is d) a b (decLe (s + 2 ^ d) g)
 
 -- ---- a pattern that meets the bounds is the one that is found
 module _ (n r : ℕ) (m : NearestRoot n r) where
-  reached : (c : ℕ) → c ≤ r → reaches n c ≡ true
-  unfolding reaches
+  reached : (c : ℕ) → c ≤ r → rootReaches n c ≡ true
+  unfolding rootReaches
   reached zero h = refl
   reached (suc c) h =
       let v = value-le 23 (suc c) r h in
       lt-ltb _ _ (lt-of-le-of-lt (square-le {a = value 23 c + value 23 (suc c)} (omega arith)) (m .below c (value-lt 23 c r h)))
 
-  passed-by : (c : ℕ) → r < c → reaches n c ≡ false
-  unfolding reaches
+  passed-by : (c : ℕ) → r < c → rootReaches n c ≡ false
+  unfolding rootReaches
   passed-by zero h = absurd (omega arith)
   passed-by (suc c) h =
       let v = value-le 23 r c (le-of-suc-le-suc h) in
@@ -44,7 +43,7 @@ module _ (n r : ℕ) (m : NearestRoot n r) where
 
   pub nearest-is : nearestRoot n ≡ r
   unfolding nearestRoot
-  nearest-is = last-is (reaches n) r reached passed-by 31 0 (omega arith) (omega (arith, m .finite))
+  nearest-is = last-is (rootReaches n) r reached passed-by 31 0 (omega arith) (omega (arith, m .finite))
 
 -- the bounds determine the pattern
 pub nearest-unique : (n r s : ℕ) → NearestRoot n r → NearestRoot n s → r ≡ s

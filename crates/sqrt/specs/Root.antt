@@ -17,18 +17,18 @@ radicand b = value 23 b * 2 ^ 149
 
 -- Whether the root of n lies above the middle between the value of the pattern c and the value before it. Twice that middle is the sum of the two values, so the
 -- square of the sum stands beside 4 * n. There is no value before 0.
-unfoldable pub reaches : ℕ → ℕ → Bool
-reaches n zero = true
-reaches n (suc c) = ltb ((value 23 c + value 23 (suc c)) ^ 2) (4 * n)
+unfoldable pub rootReaches : ℕ → ℕ → Bool
+rootReaches n zero = true
+rootReaches n (suc c) = ltb ((value 23 c + value 23 (suc c)) ^ 2) (4 * n)
 
 -- The last number that passes a test, among the 2 ^ d numbers from s on, where s passes it and no number passes after one that fails: found by halving.
-unfoldable pub last : (ℕ → Bool) → ℕ → ℕ → ℕ
-last passes zero s = s
-last passes (suc d) s = last passes d (cond (passes (s + 2 ^ d)) (s + 2 ^ d) s)
+unfoldable pub lastPassing : (ℕ → Bool) → ℕ → ℕ → ℕ
+lastPassing passes zero s = s
+lastPassing passes (suc d) s = lastPassing passes d (cond (passes (s + 2 ^ d)) (s + 2 ^ d) s)
 
 -- the pattern, without its sign, of the value nearest to the root of n
 unfoldable pub nearestRoot : ℕ → ℕ
-nearestRoot n = last (reaches n) 31 0
+nearestRoot n = lastPassing (rootReaches n) 31 0
 
 -- ---- the root of any pattern
 

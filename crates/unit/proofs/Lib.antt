@@ -1,6 +1,3 @@
 -- Laws that the proofs of this crate's functions cite, and those of the crates above.
-pub mod Sums
-pub mod Filling
-pub mod FloatTests
 pub mod Rotatable
 pub mod Vectors

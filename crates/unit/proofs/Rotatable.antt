@@ -5,7 +5,7 @@ use Prim.Native.Nat.{ℕ, _≤_}
 use native.Mathlib.Omega.{arith}
 use borrow.Author.Tests.{le-leb, leb-true, not-true, not-false}
 use lib.Dec.{leb}
-use Rattle.digits.proofs.Below.{both}
+use Rattle.lists.proofs.Tests.{both}
 use Rattle.padding.specs.Padded.{paddedDim}
 use Rattle.padding.proofs.Powers.{padded-least}
 use Rattle.unit.specs.Calls.{rotatable}

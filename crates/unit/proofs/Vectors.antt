@@ -1,14 +1,13 @@
--- The refusals of a vector, its rotation, and a prepared query.
-use mathlib.Core.Path.{_≡_, refl, sym, ap, _∙_}
-use mathlib.Core.Bool.{Bool, true, false, cond}
+-- The norm of a vector, its rotation, and a prepared query.
+use mathlib.Core.Path.{_≡_, sym, ap, _∙_}
+use mathlib.Core.Bool.{true, false}
 use mathlib.Core.List.{List, _++_}
 use Prim.Native.Nat.{ℕ, _-_, _^_, _≤_}
 use native.Mathlib.Nat.{sub-zero, le-trans, le-refl}
 use native.Mathlib.Omega.{arith}
-use borrow.Author.Tests.{le-leb, eq-eqb, ne-eqb, eqb-true}
-use lib.Dec.{eqb}
+use borrow.Author.Tests.{le-leb, eq-eqb}
 use lib.ListN.{length, take, drop}
-use lib.Seq.{take-all, length-take-le}
+use lib.Seq.{length-take-le}
 use lib.Ieee.{Float, binary32, ofBits}
 use Rattle.lists.specs.Lists.{over}
 use Rattle.lists.proofs.Laws.{over-all}
@@ -18,35 +17,11 @@ use Rattle.padding.specs.Padded.{exponent, paddedDim, isPowerOfTwo}
 use Rattle.rhdh.specs.Rotation.{rotated, applied}
 use Rattle.padding.proofs.Powers.{padded-least, padded-pow, padded-fixed}
 use Rattle.rhdh.proofs.Applied.{rotated-length}
-use Rattle.unit.specs.Unit.{sumFault, vectorFault, norm, divided, unit, rotatedBy, rnorm, prepared}
+use Rattle.vectors.specs.Vectors.{divided}
+use Rattle.vectors.proofs.Filling.{length-divided}
+use Rattle.unit.specs.Unit.{norm, unit, rotatedBy, rnorm, prepared}
 use Rattle.unit.specs.Calls.{rotatable, rotatedInto, query, preparedInto}
-use Rattle.unit.proofs.Filling.{length-divided}
 use Rattle.unit.proofs.Rotatable.{Rotatable, is-rotatable, rotatable-of, padded-most}
-
--- ---- refusals 1, 2 and 3
-
--- a vector that is taken has the length
-pub has-length : (dim working : ℕ) (v : List Float) → vectorFault dim working v ≡ 0 → length v ≡ dim
-unfolding vectorFault
-has-length dim working v e = go (eqb (length v) dim) refl e
-  where
-    go : (b : Bool) → eqb (length v) dim ≡ b → _≡_ {A = ℕ} (cond b (sumFault (sumSquares (take working v))) 1) 0 → length v ≡ dim
-    go true f q = eqb-true (length v) dim f
-    go false f q = absurd (let z : _≡_ {A = ℕ} 1 0 = q in omega arith)
-
-module _ (dim working : ℕ) (v : List Float) where
-  pub other-length : (length v ≡ dim → ⊥) → 1 ≡ vectorFault dim working v
-  unfolding vectorFault
-  other-length h = rw (ne-eqb (length v) dim h)
-
-  module _ (l : length v ≡ dim) (s : Float) (r : ℕ) (f : r ≡ sumFault s) where
-    pub first-entries : s ≡ sumSquares (take (working - 0) v) → r ≡ vectorFault dim working v
-    unfolding vectorFault
-    first-entries e = rw (eq-eqb (length v) dim l, f, e, sub-zero working)
-
-    pub all-entries : dim ≤ working → s ≡ sumSquares v → r ≡ vectorFault dim working v
-    unfolding vectorFault
-    all-entries h e = rw (eq-eqb (length v) dim l, f, e, take-all working v (omega arith))
 
 -- ---- the norm, and the entries over it
 

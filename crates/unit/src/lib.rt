@@ -1,58 +1,11 @@
-// A vector over its norm and rotated, a query prepared, and the refusals of both: what comes before the codes in `encode_into` and `prepare_query` of vecq's store.rs.
+// A vector over its norm and rotated, and a query prepared: what comes before the codes in `encode_into` and `prepare_query` of vecq's store.rs.
 ghost use mathlib.Core.Path.{_≡_};
 ghost use mathlib.Core.Bool.{true};
 ghost use lib.ListN.{length};
-ghost use Rattle.pattern.specs.Binary32.{sumSquares};
 ghost use Rattle.padding.specs.Padded.{paddedDim};
 ghost use Rattle.rhdh.specs.Rotation.{applied};
-ghost use Rattle.unit.specs.Unit.{sumFault, vectorFault, norm, divided, unit, rotatedBy, rnorm, prepared};
+ghost use Rattle.unit.specs.Unit.{norm, unit, rotatedBy, rnorm, prepared};
 ghost use Rattle.unit.specs.Calls.{rotatable, rotatedInto, query, preparedInto};
-
-// The squares, summed in index order.
-pub fn sum_squares(xs: &[f32]) -> f32
-    ensures { λ r. ⌜ r ≡ sumSquares (now (xs .entry)) ⌝ }
-{
-    let mut sum = 0.0f32;
-    let mut i = 0;
-    while i < xs.len() {
-        sum = sum + xs[i] * xs[i];
-        i += 1;
-    }
-    sum
-}
-
-// The refusal that a sum of squares calls for: 2 or 3, and 0 for none.
-fn sum_fault(sum: f32) -> u8
-    ensures { λ r. ⌜ r ≡ sumFault sum ⌝ }
-{
-    if sum != sum {
-        return 2;
-    }
-    if sum == 0.0 {
-        return 2;
-    }
-    let infinity = 1.0f32 / 0.0;
-    if sum == infinity {
-        return 3;
-    }
-    if sum == -infinity {
-        return 3;
-    }
-    0
-}
-
-// The refusal of a vector or a query, for every call that takes one: 1, 2 or 3, and 0 for none.
-pub fn vector_fault(dim: usize, working_dim: usize, v: &[f32]) -> u8
-    ensures { λ r. ⌜ r ≡ vectorFault dim «working_dim» (now (v .entry)) ⌝ }
-{
-    if v.len() != dim {
-        return 1;
-    }
-    if working_dim < dim {
-        return sum_fault(sum_squares(&v[0..working_dim]));
-    }
-    sum_fault(sum_squares(v))
-}
 
 fn copy(xs: &[f32], out: &mut [f32])
     requires { ⌜ length (now out) ≡ length (now xs) ⌝ }
@@ -65,24 +18,13 @@ fn copy(xs: &[f32], out: &mut [f32])
     }
 }
 
-// Each entry over the same number.
-pub fn divide(xs: &mut [f32], by: f32)
-    ensures { λ _. ⌜ now (xs .exit) ≡ divided by (now (xs .entry)) ⌝ }
-{
-    let mut i = 0;
-    while i < xs.len() {
-        xs[i] = xs[i] / by;
-        i += 1;
-    }
-}
-
 // The entries over their norm, which is the result.
 fn normalize(xs: &mut [f32]) -> f32
     ensures norm { λ r. ⌜ r ≡ norm (now (xs .entry)) ⌝ }
     ensures unit { λ _. ⌜ now (xs .exit) ≡ unit (now (xs .entry)) ⌝ }
 {
-    let norm = sqrt::sqrt(sum_squares(xs));
-    divide(xs, norm);
+    let norm = sqrt::sqrt(vectors::sum_squares(xs));
+    vectors::divide(xs, norm);
     norm
 }
 

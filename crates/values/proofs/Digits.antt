@@ -1,5 +1,5 @@
 -- The number that a run of digits stands for, and the digits of a part of a run.
-use mathlib.Core.Path.{_≡_, refl, sym, ap, _∙_, subst}
+use mathlib.Core.Path.{_≡_, refl, sym, ap, _∙_}
 use mathlib.Core.Bool.{Bool, true, false, _&&_}
 use mathlib.Core.List.{List, [], _∷_}
 use Prim.Native.Nat.{ℕ, zero, suc, _+_, _*_, _^_, _≤_, _<_}
@@ -7,16 +7,13 @@ use native.Mathlib.Nat.{lt-of-lt-of-le, le-of-suc-le-suc, mul-le-mul-right, pow-
 use native.Mathlib.Numerals.{add-one}
 use native.Mathlib.Omega.{arith}
 use borrow.Author.Tests.{ltb-true, lt-ltb, le-ltb}
-use lib.Dec.{T, ltb, lit<}
+use lib.Dec.{ltb, lit<}
 use lib.ListN.{length, take, drop, getD, length-drop}
 use lib.Seq.{drop-cons, drop-length, length-take-le}
+use Rattle.lists.proofs.Tests.{both}
 use Rattle.values.specs.Reading.{digitOf, areDigits, valueAfter}
 
 -- ---- every byte is a digit
-
-pub both : (s t : Bool) → (s && t) ≡ true → (s ≡ true) × (t ≡ true)
-both true t e = (refl, e)
-both false t e = absurd (subst T (sym e) tt)
 
 pub first-digit : (b : ℕ) (l : List ℕ) → areDigits (b ∷ l) ≡ true → (ltb (digitOf b) 16 ≡ true) × (areDigits l ≡ true)
 first-digit b l e = both (ltb (digitOf b) 16) (areDigits l) e

@@ -11,7 +11,7 @@ use borrow.Author.Tests.{le-leb, lt-leb, lt-ltb, ltb-true, ltb-false, ne-eqb}
 use lib.Dec.{ltb, lit<}
 use lib.ListN.{length, getD, length-append, List·getD-append}
 use Rattle.io.specs.Digits.{glyph, digits, Fewest}
-use Rattle.values.specs.Reading.{digitOf, areDigits, valueAfter, valueOf, leadsWithZero, isNumber, number, numberOf}
+use Rattle.values.specs.Reading.{digitOf, areDigits, valueAfter, valueOf, leadsWithZero, isNumber, numberRead, numberOf}
 use Rattle.values.proofs.Digits.{first-digit}
 
 -- ---- one digit
@@ -93,7 +93,7 @@ sixteen k n f h = go (ltb 16 k) refl
         let big : 16 ^ 16 ≤ n = le-trans (pow-le-pow-right {n = 16} (lit< tt) {i = 16} {j = k - 1} (omega arith)) (f .2 (omega arith)) in
         absurd (omega arith)
 
-pub read-back : (k n most : ℕ) → Fewest 16 1 n k → n ≤ most → most < 2 ^ 64 → numberOf most (digits 16 k n) ≡ number n
+pub read-back : (k n most : ℕ) → Fewest 16 1 n k → n ≤ most → most < 2 ^ 64 → numberOf most (digits 16 k n) ≡ numberRead n
 unfolding numberOf isNumber
 read-back k n most f h m =
     let long = digits-length k n in

@@ -11,7 +11,7 @@ use lib.ListN.{length}
 use Rattle.lists.specs.Lists.{over}
 use Rattle.values.specs.declared.Run.{Run}
 use Rattle.values.specs.Reading.{areDigits, leadsWithZero, isNumber, isDash, isRun, run, noRun, runOf, IsRun}
-use Rattle.values.proofs.Digits.{both}
+use Rattle.lists.proofs.Tests.{both}
 
 pub number-is : (f : List ℕ) → isNumber f ≡ true → (areDigits f ≡ true) × (length f ≤ 16)
 unfolding isNumber

@@ -43,14 +43,14 @@ leadsWithZero f = leb 2 (length f) && eqb (getD f 0 0) 48
 unfoldable pub isNumber : List ℕ → Bool
 isNumber f = ltb 0 (length f) && (leb (length f) 16 && (not (leadsWithZero f) && areDigits f))
 
-abbrev pub number : ℕ → Number
-number n = record { ok = true; value = n }
+abbrev pub numberRead : ℕ → Number
+numberRead n = record { ok = true; value = n }
 
 abbrev pub noNumber : Number
 noNumber = record { ok = false; value = 0 }
 
 abbrev pub atMost : ℕ → ℕ → Number
-atMost most n = cond (leb n most) (number n) noNumber
+atMost most n = cond (leb n most) (numberRead n) noNumber
 
 -- the number that the field is, where it is one of at most `most`
 unfoldable pub numberOf : ℕ → List ℕ → Number
@@ -96,7 +96,7 @@ bytesOf f n = tab (elementOf 2 f) n
 -- ---- worked by hand
 
 -- `1f` is 31, which is not at most 30; `0` is 0, and `01` is no number
-number-worked : (numberOf 31 (49 ∷ 102 ∷ []) ≡ number 31) × (numberOf 30 (49 ∷ 102 ∷ []) ≡ noNumber) × (numberOf 0 (48 ∷ []) ≡ number 0) × (numberOf 9 (48 ∷ 49 ∷ []) ≡ noNumber)
+number-worked : (numberOf 31 (49 ∷ 102 ∷ []) ≡ numberRead 31) × (numberOf 30 (49 ∷ 102 ∷ []) ≡ noNumber) × (numberOf 0 (48 ∷ []) ≡ numberRead 0) × (numberOf 9 (48 ∷ 49 ∷ []) ≡ noNumber)
 unfolding numberOf isNumber leadsWithZero digitOf
 number-worked = (refl, refl, refl, refl)
 

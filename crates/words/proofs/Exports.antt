@@ -3,10 +3,10 @@ use mathlib.Core.Path.{_≡_, refl, sym, ap, _∙_}
 use mathlib.Core.List.{List, []}
 use Prim.Native.Nat.{ℕ, _≤_, _<_}
 use lib.ListN.{length}
-use lib.Dec.{ltb}
 use lib.Ieee.{Float}
 use borrow.Author.Tests.{le-ltb, lt-ltb}
 use Rattle.lists.specs.Lists.{over}
+use Rattle.encode.specs.declared.Header.{Header}
 use Rattle.index.specs.declared.Index.{Index}
 use Rattle.index.specs.declared.Made.{Made}
 use Rattle.index.specs.declared.Made.the-variants as Made
@@ -18,12 +18,13 @@ use Rattle.index.specs.Arrays.{Arrays}
 use Rattle.index.specs.Step.{Op, write}
 use Rattle.index.specs.Call.{Result, call}
 use Rattle.index.specs.Answers.{made, added, Filed, filed, files, Stored, stored, stores}
-use Rattle.index.specs.Read.{Reading, readInto}
+use Rattle.index.specs.Make.{Begun, begun, make}
+use Rattle.index.specs.Read.{readInto}
 use Rattle.words.specs.declared.Record.{Record}
 use Rattle.words.specs.declared.Record.the-variants as Record
-use Rattle.words.specs.Words.{wordsOf, recordIn, recordBeside}
+use Rattle.words.specs.Words.{recordWords, wordsOf, recordIn, recordBeside}
 use Rattle.words.specs.Put.{Put, put, putMade, putFound, putWritten, PutBoth, putBoth, putAdded}
-use Rattle.words.specs.Exports.{byRecord, left, leaves, adds, changes, reads, listed, lists, filled, writes}
+use Rattle.words.specs.Exports.{byRecord, left, leaves, adds, changes, makes, reads, hitsLeft, lists, fileLeft, writes}
 use Rattle.words.proofs.Records.{eight, beside}
 use Rattle.words.proofs.Words.{words-put}
 
@@ -41,31 +42,31 @@ module _ (fs ws : List ℕ) (r : Record) (e : r ≡ recordBeside fs ws) where
   unfolding adds
   add-misfit op a m = by-misfit _ _ _ (sym e ∙ m)
 
-  pub list-misfit : (op : Op) (a : Arrays) (ns : List ℕ) (ss : List Float) → r ≡ Record.Misfit → listed (put 13 ws) ns ss ≡ lists op a fs ws ns ss
+  pub list-misfit : (op : Op) (a : Arrays) (ns : List ℕ) (ss : List Float) → r ≡ Record.Misfit → hitsLeft (put 13 ws) ns ss ≡ lists op a fs ws ns ss
   unfolding lists
   list-misfit op a ns ss m = by-misfit _ _ _ (sym e ∙ m)
 
-  pub write-misfit : (a : Arrays) (file : List ℕ) → r ≡ Record.Misfit → filled (put 13 ws) file ≡ writes a fs ws file
+  pub write-misfit : (a : Arrays) (file : List ℕ) → r ≡ Record.Misfit → fileLeft (put 13 ws) file ≡ writes a fs ws file
   unfolding writes
   write-misfit a file m = by-misfit _ _ _ (sym e ∙ m)
 
   module _ (x : Index) (is : r ≡ Record.Fields x) where
     pub list-done : (op : Op) (a b : Arrays) (found : Found) (ns ns′ : List ℕ) (ss ss′ : List Float) → filed x b found ns′ ss′ ≡ files (call x a op) ns ss →
-        (n : ℕ) (ws′ : List ℕ) → put n ws′ ≡ putFound found ws → listed (put n ws′) ns′ ss′ ≡ lists op a fs ws ns ss
+        (n : ℕ) (ws′ : List ℕ) → put n ws′ ≡ putFound found ws → hitsLeft (put n ws′) ns′ ss′ ≡ lists op a fs ws ns ss
     unfolding lists
     list-done op a b found ns ns′ ss ss′ g n ws′ p =
-        ap (λ (q : Put). listed q ns′ ss′) p ∙ ap (λ (f : Filed). listed (putFound (f .answer) ws) (f .numbers) (f .scores)) g ∙ by-fields _ x _ _ (sym e ∙ is)
+        ap (λ (q : Put). hitsLeft q ns′ ss′) p ∙ ap (λ (f : Filed). hitsLeft (putFound (f .answer) ws) (f .numbers) (f .scores)) g ∙ by-fields _ x _ _ (sym e ∙ is)
 
     pub write-done : (a b : Arrays) (written : Written) (file file′ : List ℕ) → stored x b written file′ ≡ stores (call x a (write (length file))) file →
-        (n : ℕ) (ws′ : List ℕ) → put n ws′ ≡ putWritten written ws → filled (put n ws′) file′ ≡ writes a fs ws file
+        (n : ℕ) (ws′ : List ℕ) → put n ws′ ≡ putWritten written ws → fileLeft (put n ws′) file′ ≡ writes a fs ws file
     unfolding writes
     write-done a b written file file′ g n ws′ p =
-        ap (λ (q : Put). filled q file′) p ∙ ap (λ (s : Stored). filled (putWritten (s .answer) ws) (s .file)) g ∙ by-fields _ x _ _ (sym e ∙ is)
+        ap (λ (q : Put). fileLeft q file′) p ∙ ap (λ (s : Stored). fileLeft (putWritten (s .answer) ws) (s .file)) g ∙ by-fields _ x _ _ (sym e ∙ is)
 
     both-put : (d : Added) (b : Arrays) → left (putAdded d fs ws .number) (putAdded d fs ws .fields) (putAdded d fs ws .answer) b ≡ leaves (added x d b) fs ws
     both-put (Added.Slot i y) b =
         let room = beside fs ws x (sym is ∙ e) in
-        rw (le-ltb (length fs) 8 (eight fs x (room .1)), room .0)
+        rw (le-ltb (length fs) recordWords (eight fs x (room .1)), room .0)
     both-put (Added.Refused n) b = refl
 
     pub add-done : (op : Op) (a b : Arrays) (d : Added) → added x d b ≡ call x a op → (n : ℕ) (fs′ ws′ : List ℕ) → putBoth n fs′ ws′ ≡ putAdded d fs ws →
@@ -77,7 +78,7 @@ module _ (fs ws : List ℕ) (r : Record) (e : r ≡ recordBeside fs ws) where
 -- ---- the record alone
 
 -- what is written of a record that has places
-record-put : (fs : List ℕ) → 8 ≤ length fs → (d : Made) (x : Index) (b : Arrays) → left (putMade d fs .number) (putMade d fs .words) [] b ≡ leaves (made x d b) fs []
+record-put : (fs : List ℕ) → recordWords ≤ length fs → (d : Made) (x : Index) (b : Arrays) → left (putMade d fs .number) (putMade d fs .words) [] b ≡ leaves (made x d b) fs []
 unfolding wordsOf over
 record-put fs h (Made.Index y) x b = ap (λ (q : Put). left (q .number) (q .words) [] b) (sym (words-put (wordsOf y) fs h))
 record-put fs h (Made.Refused n) x b = refl
@@ -94,16 +95,19 @@ module _ (fs : List ℕ) (r : Record) (e : r ≡ recordIn fs) (op : Op) (a : Arr
       ap (λ (q : Put). left (q .number) (q .words) [] b) p ∙ record-put fs (eight fs x (sym is ∙ e)) d x b ∙ ap (λ (y : Result). leaves y fs []) g ∙ by-fields _ x _ _ (sym e ∙ is)
 
 module _ (file fs : List ℕ) (a : Arrays) where
-  pub read-short : length fs < 8 → left 13 fs [] a ≡ reads file fs a
+  pub read-short : length fs < recordWords → left 13 fs [] a ≡ reads file fs a
   unfolding reads
-  read-short h = rw (lt-ltb (length fs) 8 h)
+  read-short h = rw (lt-ltb (length fs) recordWords h)
 
-  pub read-done : 8 ≤ length fs → (d : Made) (b : Arrays) → (record { answer = d; arrays = b }) ≡ readInto a file → (n : ℕ) (fs′ : List ℕ) → put n fs′ ≡ putMade d fs → left n fs′ [] b ≡ reads file fs a
+  pub read-done : recordWords ≤ length fs → (d : Made) (b : Arrays) → begun d b ≡ readInto a file → (n : ℕ) (fs′ : List ℕ) → put n fs′ ≡ putMade d fs → left n fs′ [] b ≡ reads file fs a
   unfolding reads
   read-done h d b g n fs′ p =
-      ap (λ (q : Put). left (q .number) (q .words) [] b) p ∙ ap (λ (y : Reading). left (putMade (y .answer) fs .number) (putMade (y .answer) fs .words) [] (y .arrays)) g
-      ∙ rw (le-ltb (length fs) 8 h)
+      ap (λ (q : Put). left (q .number) (q .words) [] b) p ∙ ap (λ (y : Begun). left (putMade (y .answer) fs .number) (putMade (y .answer) fs .words) [] (y .arrays)) g
+      ∙ rw (le-ltb (length fs) recordWords h)
 
 -- making
-pub make-done : (fs : List ℕ) (d e : Made) → d ≡ e → (p : Put) → p ≡ putMade d fs → p ≡ putMade e fs
-make-done fs d e g p h = h ∙ ap (λ (y : Made). putMade y fs) g
+pub make-done : (h : Header) (a : Arrays) (d : Made) → begun d a ≡ make h a → (fs : List ℕ) (n : ℕ) (fs′ : List ℕ) → put n fs′ ≡ putMade d fs →
+    left n fs′ [] a ≡ makes h fs a
+unfolding makes
+make-done h a d g fs n fs′ p =
+    ap (λ (q : Put). left (q .number) (q .words) [] a) p ∙ ap (λ (y : Begun). left (putMade (y .answer) fs .number) (putMade (y .answer) fs .words) [] (y .arrays)) g

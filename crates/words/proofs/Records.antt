@@ -9,37 +9,37 @@ use lib.Dec.{leb, eqb}
 use borrow.Author.Tests.{le-leb, lt-leb, leb-true, eq-eqb, ne-eqb}
 use Rattle.lists.specs.Lists.{over}
 use Rattle.lists.specs.Keep.{bit}
-use Rattle.digits.proofs.Below.{both}
+use Rattle.lists.proofs.Tests.{both}
 use Rattle.index.specs.declared.Index.{Index}
 use Rattle.words.specs.declared.Record.{Record}
 use Rattle.words.specs.declared.Record.the-variants as Record
-use Rattle.words.specs.Words.{wordsOf, fieldsIn, typed, recordIn, recordBeside}
+use Rattle.words.specs.Words.{recordWords, wordsOf, fieldsIn, typed, recordIn, recordBeside}
 
 -- a byte fits
 pub byte-typed : (b r c : ℕ) → typed b r c ≡ true → b < 256
 byte-typed b r c h = omega (arith, leb-true b 255 (both _ _ (both _ _ h .0) .0))
 
 module _ (ws : List ℕ) where
-  pub too-few : length ws < 8 → Record.Misfit ≡ recordIn ws
+  pub too-few : length ws < recordWords → Record.Misfit ≡ recordIn ws
   unfolding recordIn
-  too-few h = rw (lt-leb 8 (length ws) h)
+  too-few h = rw (lt-leb recordWords (length ws) h)
 
-  module _ (h : 8 ≤ length ws) where
+  module _ (h : recordWords ≤ length ws) where
     pub untyped : typed (getD ws 3 0) (getD ws 4 0) (getD ws 7 0) ≡ false → Record.Misfit ≡ recordIn ws
     unfolding recordIn
-    untyped e = rw (le-leb 8 (length ws) h, e)
+    untyped e = rw (le-leb recordWords (length ws) h, e)
 
     pub all-typed : typed (getD ws 3 0) (getD ws 4 0) (getD ws 7 0) ≡ true → Record.Fields (fieldsIn ws) ≡ recordIn ws
     unfolding recordIn
-    all-typed e = rw (le-leb 8 (length ws) h, e)
+    all-typed e = rw (le-leb recordWords (length ws) h, e)
 
   -- a record has eight words
-  pub eight : (x : Index) → Record.Fields x ≡ recordIn ws → 8 ≤ length ws
+  pub eight : (x : Index) → Record.Fields x ≡ recordIn ws → recordWords ≤ length ws
   unfolding recordIn
-  eight x e = go (leb 8 (length ws)) refl
+  eight x e = go (leb recordWords (length ws)) refl
     where
-      go : (b : Bool) → leb 8 (length ws) ≡ b → 8 ≤ length ws
-      go true t = leb-true 8 (length ws) t
+      go : (b : Bool) → leb recordWords (length ws) ≡ b → recordWords ≤ length ws
+      go true t = leb-true recordWords (length ws) t
       go false t = absurd (let z : _≡_ {A = ℕ} 0 1 = cc (rw t at e) in omega arith)
 
   module _ (answer : List ℕ) where

@@ -1,5 +1,5 @@
 -- What the calls for C leave, by the record that the words `fields` say: 13 and every lent slice as it was where they say none, else what the call itself leaves, with the words of
--- its record and its answer over the first places of `fields` and `answer`. Making has no record yet: there `putMade` says it all.
+-- its record and its answer over the first places of `fields` and `answer`.
 use mathlib.Core.Bool.{cond}
 use mathlib.Core.List.{List, [], _∷_}
 use Prim.Native.Nat.{ℕ}
@@ -7,15 +7,17 @@ use lib.ListN.{length}
 use lib.Dec.{ltb}
 use lib.Ieee.{Float}
 use Rattle.lists.specs.Lists.{over}
+use Rattle.encode.specs.declared.Header.{Header}
 use Rattle.index.specs.declared.Index.{Index}
 use Rattle.index.specs.Arrays.{Arrays}
 use Rattle.index.specs.Step.{Op, Answer, refused, done, flag, slot, maybeSlot, maybeKey, scoreIs, hits, keyHits, size, bytes, write}
 use Rattle.index.specs.Call.{Result, call}
 use Rattle.index.specs.Answers.{files, stores}
+use Rattle.index.specs.Make.{make}
 use Rattle.index.specs.Read.{readInto}
 use Rattle.words.specs.declared.Record.{Record}
 use Rattle.words.specs.declared.Record.the-variants as Record
-use Rattle.words.specs.Words.{wordsOf, recordIn, recordBeside}
+use Rattle.words.specs.Words.{recordWords, wordsOf, recordIn, recordBeside}
 use Rattle.words.specs.Put.{Put, put, putMade, putFound, putWritten}
 
 abbrev pub byRecord : {A : Type 0} → Record → (misfit : A) → (Index → A) → A
@@ -61,37 +63,44 @@ adds op fs ws a = byRecord (recordBeside fs ws) (left 13 fs ws a) (λ x. leaves 
 unfoldable pub changes : Op → (fields : List ℕ) → Arrays → Left
 changes op fs a = byRecord (recordIn fs) (left 13 fs [] a) (λ x. leaves (call x a op) fs [])
 
+-- making: it has no record to read, and its own tests come before the places for the record
+unfoldable pub makes : Header → (fields : List ℕ) → Arrays → Left
+makes h fs a =
+    let m = make h a in
+    let p = putMade (m .answer) fs in
+    left (p .number) (p .words) [] (m .arrays)
+
 -- reading: the places for the record come before its own tests
 unfoldable pub reads : (file fields : List ℕ) → Arrays → Left
 reads file fs a =
     let r = readInto a file in
     let p = putMade (r .answer) fs in
-    cond (ltb (length fs) 8) (left 13 fs [] a) (left (p .number) (p .words) [] (r .arrays))
+    cond (ltb (length fs) recordWords) (left 13 fs [] a) (left (p .number) (p .words) [] (r .arrays))
 
 -- ---- searches and writing
 
 -- numbers of slots, or keys for a keyed search
-pub record Listed : Type 0 where
+pub record HitsLeft : Type 0 where
   pub answer : Put
   pub numbers : List ℕ
   pub scores : List Float
 
-abbrev pub listed : Put → (numbers : List ℕ) → (scores : List Float) → Listed
-listed p ns ss = record { answer = p; numbers = ns; scores = ss }
+abbrev pub hitsLeft : Put → (numbers : List ℕ) → (scores : List Float) → HitsLeft
+hitsLeft p ns ss = record { answer = p; numbers = ns; scores = ss }
 
-unfoldable pub lists : Op → Arrays → (fields answer numbers : List ℕ) → (scores : List Float) → Listed
+unfoldable pub lists : Op → Arrays → (fields answer numbers : List ℕ) → (scores : List Float) → HitsLeft
 lists op a fs ws ns ss =
-    byRecord (recordBeside fs ws) (listed (put 13 ws) ns ss)
-    (λ x. let found = files (call x a op) ns ss in listed (putFound (found .answer) ws) (found .numbers) (found .scores))
+    byRecord (recordBeside fs ws) (hitsLeft (put 13 ws) ns ss)
+    (λ x. let found = files (call x a op) ns ss in hitsLeft (putFound (found .answer) ws) (found .numbers) (found .scores))
 
-pub record Filled : Type 0 where
+pub record FileLeft : Type 0 where
   pub answer : Put
   pub file : List ℕ
 
-abbrev pub filled : Put → (file : List ℕ) → Filled
-filled p file = record { answer = p; file = file }
+abbrev pub fileLeft : Put → (file : List ℕ) → FileLeft
+fileLeft p file = record { answer = p; file = file }
 
-unfoldable pub writes : Arrays → (fields answer file : List ℕ) → Filled
+unfoldable pub writes : Arrays → (fields answer file : List ℕ) → FileLeft
 writes a fs ws file =
-    byRecord (recordBeside fs ws) (filled (put 13 ws) file)
-    (λ x. let made = stores (call x a (write (length file))) file in filled (putWritten (made .answer) ws) (made .file))
+    byRecord (recordBeside fs ws) (fileLeft (put 13 ws) file)
+    (λ x. let made = stores (call x a (write (length file))) file in fileLeft (putWritten (made .answer) ws) (made .file))

@@ -13,7 +13,7 @@ use Rattle.index.specs.declared.Found.{Found}
 use Rattle.index.specs.declared.Found.the-variants as Found
 use Rattle.index.specs.declared.Written.{Written}
 use Rattle.index.specs.declared.Written.the-variants as Written
-use Rattle.words.specs.Words.{wordsOf}
+use Rattle.words.specs.Words.{recordWords, wordsOf}
 
 -- the number, and the lent words afterwards
 pub record Put : Type 0 where
@@ -53,5 +53,5 @@ putBoth n fs ws = record { number = n; fields = fs; answer = ws }
 
 abbrev pub putAdded : Added → (fields answer : List ℕ) → PutBoth
 putAdded (Added.Slot i x) fs ws =
-    cond (ltb (length fs) 8 || eqb (length ws) 0) (putBoth 13 fs ws) (putBoth 0 (over (wordsOf x) fs) (over (i ∷ []) ws))
+    cond (ltb (length fs) recordWords || eqb (length ws) 0) (putBoth 13 fs ws) (putBoth 0 (over (wordsOf x) fs) (over (i ∷ []) ws))
 putAdded (Added.Refused n) fs ws = putBoth n fs ws

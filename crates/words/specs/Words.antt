@@ -9,6 +9,10 @@ use Rattle.index.specs.declared.Index.{Index}
 use Rattle.words.specs.declared.Record.{Record}
 use Rattle.words.specs.declared.Record.the-variants as Record
 
+-- how many words that is
+abbrev pub recordWords : ℕ
+recordWords = 8
+
 unfoldable pub wordsOf : Index → List ℕ
 wordsOf x = x .dim ∷ x .«working_dim» ∷ x .seed ∷ x .bits ∷ bit (x .residual) ∷ x .n ∷ x .live ∷ bit (x .cascade) ∷ []
 
@@ -29,9 +33,9 @@ fieldsIn ws =
 abbrev pub typed : (bits residual cascade : ℕ) → Bool
 typed b r c = leb b 255 && leb r 1 && leb c 1
 
--- the record that the first eight words say; none where there are fewer, or where one is no value of its field's type
+-- the record that the first words say; none where there are fewer, or where one is no value of its field's type
 unfoldable pub recordIn : (words : List ℕ) → Record
-recordIn ws = cond (leb 8 (length ws) && typed (getD ws 3 0) (getD ws 4 0) (getD ws 7 0)) (Record.Fields (fieldsIn ws)) Record.Misfit
+recordIn ws = cond (leb recordWords (length ws) && typed (getD ws 3 0) (getD ws 4 0) (getD ws 7 0)) (Record.Fields (fieldsIn ws)) Record.Misfit
 
 -- of a call that answers a word: none also where there is no place for it
 unfoldable pub recordBeside : (words answer : List ℕ) → Record

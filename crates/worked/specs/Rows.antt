@@ -6,18 +6,18 @@ use Prim.Native.Nat.{ℕ}
 use lib.Dec.{T, eqb}
 use lib.Ieee.{binary32, size, add, sub, ofBits, toBits, nanBits}
 use Rattle.half.specs.Half.{narrowed, widened}
-use Rattle.sqrt.specs.Root.{rootBits, nearestRoot, last, reaches}
+use Rattle.sqrt.specs.Root.{rootBits, nearestRoot, lastPassing, rootReaches}
 use Rattle.half.specs.Binary.{magnitude, near, kept}
-use Rattle.signs.specs.Signs.{start, step, xorLeft, xorRight, output, sign}
+use Rattle.signs.specs.Signs.{start, nextState, xorLeft, xorRight, output, sign}
 use Rattle.padding.specs.Padded.{isPowerOfTwo, exponent}
 use Rattle.fwht.specs.Fwht.{fwht, pass, entry}
 use Rattle.fwht.specs.Binary32.{fwht32}
 use Rattle.codes.specs.Packing.{packed, bytesPerVector}
 use Rattle.score.specs.Order.{orderOfBits, orderNumber}
 use Rattle.choose.specs.Choose.{stay, choose}
-use Rattle.choose_slots.specs.Slots.{entered, listed}
+use Rattle.choose_slots.specs.Slots.{takingPart, listed}
 
-pub record Row : Type 0 where
+pub record Example : Type 0 where
   pub gives : List ℕ
   pub says : List ℕ
 
@@ -28,7 +28,7 @@ same (x ∷ xs) [] = false
 same (x ∷ xs) (y ∷ ys) = eqb x y && same xs ys
 
 -- every row gives what the document says
-unfoldable pub agree : List Row → Bool
+unfoldable pub agree : List Example → Bool
 agree [] = true
 agree (r ∷ rs) = same (r .gives) (r .says) && agree rs
 
@@ -36,10 +36,10 @@ agree (r ∷ rs) = same (r .gives) (r .says) && agree rs
 abbrev pub orders : List ℕ → List ℕ
 orders scores = map orderNumber (map (ofBits binary32) scores)
 
-unfoldable pub rows : List Row
-rows =
+unfoldable pub examples : List Example
+examples =
     -- seed 1: first output 0x47E4CE4B896CDD1D, sign -1
-    record { gives = output (step (start 1)) ∷ toBits binary32 (sign (output (step (start 1)))) ∷ []; says = 0x47E4_CE4B_896C_DD1D ∷ 0xBF80_0000 ∷ [] }
+    record { gives = output (nextState (start 1)) ∷ toBits binary32 (sign (output (nextState (start 1)))) ∷ []; says = 0x47E4_CE4B_896C_DD1D ∷ 0xBF80_0000 ∷ [] }
     -- fwht of 1,2,3,4: 10,-2,-4,0
     ∷ record {
       gives = map (toBits binary32) (fwht32 (map (ofBits binary32) (0x3F80_0000 ∷ 0x4000_0000 ∷ 0x4040_0000 ∷ 0x4080_0000 ∷ [])));
@@ -63,6 +63,6 @@ rows =
     ∷ record { gives = rootBits 0x3E80_0000 ∷ []; says = 0x3F00_0000 ∷ [] }
     ∷ []
 
-pub worked : T (agree rows)
-unfolding rows agree same narrowed widened magnitude near kept rootBits nearestRoot last reaches start step xorLeft xorRight output sign isPowerOfTwo exponent fwht pass entry packed bytesPerVector orderOfBits stay choose entered listed size add sub ofBits toBits nanBits
+pub worked : T (agree examples)
+unfolding examples agree same narrowed widened magnitude near kept rootBits nearestRoot lastPassing rootReaches start nextState xorLeft xorRight output sign isPowerOfTwo exponent fwht pass entry packed bytesPerVector orderOfBits stay choose takingPart listed size add sub ofBits toBits nanBits
 worked = tt

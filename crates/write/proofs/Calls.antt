@@ -15,11 +15,12 @@ use Rattle.index.specs.declared.Written.the-variants as Written
 use Rattle.index.specs.Arrays.{Arrays}
 use Rattle.index.specs.State.{headerOf, stateOf}
 use Rattle.index.specs.Fit.{fit}
+use Rattle.index.specs.File.{Entry, versionOf}
 use Rattle.index.specs.Step.{Answer, refused, size, bytes, fileLength, write, liveFrom, fileBytes, answered, when, unless, step}
 use Rattle.index.specs.Call.{Result, call}
 use Rattle.index.specs.Answers.{result, stored, stores}
 use Rattle.index.proofs.Calls.{call-misfit, call-answered}
-use Rattle.write.specs.Put.{Put}
+use Rattle.write.specs.Put.{PutFrom}
 use Rattle.write.specs.Pieces.{filePieces}
 use Rattle.write.proofs.Pieces.{file-pieces}
 
@@ -27,8 +28,13 @@ module _ (x : Index) (a : Arrays) where
   abbrev file : List ℕ
   file = fileBytes (headerOf x) (liveFrom 0 (stateOf x a .slots))
 
-  abbrev pieces : List ℕ
-  pieces = filePieces (headerOf x) (a .codes) (a .scales) (a .keys) (a .keyed) (a .alive) (a .codes2) (a .scales2) (x .n)
+  abbrev pieces : (version : ℕ) → List ℕ
+  pieces v = filePieces v (headerOf x) (a .codes) (a .scales) (a .keys) (a .keyed) (a .alive) (a .codes2) (a .scales2) (x .n)
+
+  -- in the version of the index they are the file
+  pieces-are : (v : ℕ) → ((es : List Entry) → v ≡ versionOf (headerOf x) es) → pieces v ≡ file
+  unfolding stateOf
+  pieces-are v d = ap pieces (d _) ∙ sym (file-pieces (headerOf x) a (x .n))
 
   -- ---- what the length tells
 
@@ -69,17 +75,16 @@ module _ (x : Index) (a : Arrays) where
       pub write-short : (n : ℕ) → n ≡ length file → length old < n → stored x a (Written.Refused 13) old ≡ stores (call x a (write (length old))) old
       write-short n f l = answer (refused 13) (rw (lt-ltb (length old) (length file) (omega arith)))
 
-      pub write-done : (n next : ℕ) (new : List ℕ) → n ≡ length file → n ≤ length old
-          → Put pieces 0 next old new → stored x a (Written.Bytes n) new ≡ stores (call x a (write (length old))) old
+      pub write-done : (v n next : ℕ) (new : List ℕ) → ((es : List Entry) → v ≡ versionOf (headerOf x) es) → n ≡ length file → n ≤ length old
+          → PutFrom (pieces v) 0 next old new → stored x a (Written.Bytes n) new ≡ stores (call x a (write (length old))) old
       unfolding stateOf over
-      write-done n next new f l p =
+      write-done v n next new d f l p =
           (λ j. stored x a (Written.Bytes (f j)) (there j)) ∙ answer (bytes file) (rw (le-ltb (length old) (length file) (omega arith)))
         where
           there : new ≡ over file old
           there =
-              p .written ∙ ap (sets old 0) (sym (file-pieces (headerOf x) a (x .n))) ∙ sets-eq file old 0 (omega (arith, f))
+              p .written ∙ ap (sets old 0) (pieces-are v d) ∙ sets-eq file old 0 (omega (arith, f))
               ∙ ap (λ (k : ℕ). file ++ drop k old) (zero-add (length file))
 
-  pub file-room : (n m : ℕ) → n ≡ length file → n ≤ m → 0 + length pieces ≤ m
-  unfolding stateOf
-  file-room n m f l = rw (← file-pieces (headerOf x) a (x .n)) (omega (arith, f))
+  pub file-room : (v n m : ℕ) → ((es : List Entry) → v ≡ versionOf (headerOf x) es) → n ≡ length file → n ≤ m → 0 + length (pieces v) ≤ m
+  file-room v n m d f l = omega (arith, f, ap length (pieces-are v d))

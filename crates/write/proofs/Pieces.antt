@@ -9,7 +9,7 @@ use native.Mathlib.Omega.{arith}
 use lib.ListN.{length, getD}
 use lib.Dec.{ltb}
 use borrow.Author.Tests.{lt-ltb}
-use Rattle.lists.specs.Lists.{tab}
+use Rattle.lists.specs.Lists.{tab, joined, below}
 use Rattle.lists.specs.Keep.{keep, count}
 use Rattle.lists.proofs.Keep.{keep-append}
 use Rattle.lists.proofs.Front.{map-tab}
@@ -20,15 +20,15 @@ use Rattle.encode.specs.declared.Header.{Header}
 use Rattle.encode.specs.Header.{blockSize}
 use Rattle.encode.specs.Coded.{Code}
 use Rattle.index.specs.Arrays.{Arrays}
-use Rattle.index.specs.State.{markOf, stageAt, slotAt, joined}
-use Rattle.index.specs.File.{Entry, le, widthByte, headBytes, stageBytes, secondStages, keyEntries, fileOf}
+use Rattle.index.specs.State.{markOf, stageAt, slotAt}
+use Rattle.index.specs.File.{Entry, leBytes, versionOf, widthByte, headBytes, stageBytes, secondStages, keyEntries, fileOf}
 use Rattle.index.specs.Step.{liveFrom, keyOfMark, fileBytes}
 use Rattle.index.proofs.Blocks.{joined-append}
-use Rattle.held.specs.Held.{below}
-use Rattle.layout.specs.Counts.{liveAt, entryAt, countsOf}
+use Rattle.marks.specs.Live.{liveAt}
+use Rattle.layout.specs.Counts.{entryAt, countsOf}
 use Rattle.layout.proofs.Length.{keyed-count}
 use Rattle.layout.proofs.Counting.{numbers, slotEntry, entries-are, live-many, keyed-many}
-use Rattle.write.specs.Put.{Put}
+use Rattle.write.specs.Put.{PutFrom}
 use Rattle.write.specs.Pieces.{inOrder, scalePiece, codePiece, keyPiece, stagePieces, secondPieces, filePieces}
 use Rattle.write.proofs.Putting.{put-room, room-first, order-more}
 
@@ -66,7 +66,7 @@ map-one f false x = refl
 
 -- the entry of one slot, under the number j
 one-entry : (c : Code) (m : ℕ) (on : Bool) (k p j : ℕ) →
-    joined (keyEntries j (cond (ltb 0 m) (record { code = c; key = keyOfMark (markOf m on k p) } ∷ []) [])) ≡ cond (ltb 0 m && on) (le 4 j ++ le 8 k) []
+    joined (keyEntries j (cond (ltb 0 m) (record { code = c; key = keyOfMark (markOf m on k p) } ∷ []) [])) ≡ cond (ltb 0 m && on) (leBytes 4 j ++ leBytes 8 k) []
 unfolding joined keyEntries
 one-entry c zero on k p j = refl
 one-entry c (suc m) true k p j = rw (lt-ltb 0 (suc m) (omega arith))
@@ -113,8 +113,8 @@ module _ (h : Header) (a : Arrays) where
   unfolding stagePieces scalePiece codePiece
   stage-pieces scales codes n =
       ap₂ _++_
-      (ap joined (map-map (λ (g : Stage). le 2 (narrowed (g .scale))) (stageAt h scales codes) (numbers h a n))
-      ∙ kept-order (liveAt (a .alive)) (λ i. le 2 (narrowed (getD scales i 0))) n)
+      (ap joined (map-map (λ (g : Stage). leBytes 2 (narrowed (g .scale))) (stageAt h scales codes) (numbers h a n))
+      ∙ kept-order (liveAt (a .alive)) (λ i. leBytes 2 (narrowed (getD scales i 0))) n)
       (ap joined (map-map (λ (g : Stage). g .block) (stageAt h scales codes) (numbers h a n))
       ∙ kept-order (liveAt (a .alive)) (λ i. blockAt (blockSize h) i codes) n)
 
@@ -142,7 +142,7 @@ module _ (h : Header) (a : Arrays) where
   -- ---- the file
 
   pub file-pieces : (n : ℕ) → fileBytes h (liveFrom 0 (tab (slotAt h a) n))
-      ≡ filePieces h (a .codes) (a .scales) (a .keys) (a .keyed) (a .alive) (a .codes2) (a .scales2) n
+      ≡ filePieces (versionOf h (entries n)) h (a .codes) (a .scales) (a .keys) (a .keyed) (a .alive) (a .codes2) (a .scales2) n
   unfolding fileOf filePieces countsOf
   file-pieces n =
       ap (fileOf h) (entries-are h a n)
@@ -153,27 +153,27 @@ module _ (h : Header) (a : Arrays) where
 
 module _ (keys : List ℕ) (keyed : List Bool) (alive : List ℕ) (i number : ℕ) (e : number ≡ count (liveAt alive) (below i)) where
   abbrev entryUnder : List ℕ
-  entryUnder = cond (entryAt keyed alive i) (le 4 number ++ le 8 (getD keys i 0)) []
+  entryUnder = cond (entryAt keyed alive i) (leBytes 4 number ++ leBytes 8 (getD keys i 0)) []
 
   same-entry : entryUnder ≡ keyPiece keys keyed alive i
   unfolding keyPiece
-  same-entry = ap (λ (v : ℕ). cond (entryAt keyed alive i) (le 4 v ++ le 8 (getD keys i 0)) []) e
+  same-entry = ap (λ (v : ℕ). cond (entryAt keyed alive i) (leBytes 4 v ++ leBytes 8 (getD keys i 0)) []) e
 
   pub entry-room : (at m : ℕ) → at + length (keyPiece keys keyed alive i) ≤ m → at + length entryUnder ≤ m
   entry-room at m l = rw same-entry l
 
-  pub entry-is : {at next : ℕ} {old new : List ℕ} → Put entryUnder at next old new → Put (keyPiece keys keyed alive i) at next old new
+  pub entry-is : {at next : ℕ} {old new : List ℕ} → PutFrom entryUnder at next old new → PutFrom (keyPiece keys keyed alive i) at next old new
   entry-is p = rw same-entry at p
 
 -- ---- room for each block
 
 -- what is written before each block
-module _ (h : Header) (codes scales keys : List ℕ) (keyed : List Bool) (alive codes2 scales2 : List ℕ) (n : ℕ) where
+module _ (v : ℕ) (h : Header) (codes scales keys : List ℕ) (keyed : List Bool) (alive codes2 scales2 : List ℕ) (n : ℕ) where
   abbrev head : List ℕ
-  head = headBytes h (countsOf keyed alive n .live)
+  head = headBytes v h (countsOf keyed alive n .live)
 
   abbrev toStage : List ℕ
-  toStage = head ++ widthByte h
+  toStage = head ++ widthByte v h
 
   abbrev toSecond : List ℕ
   toSecond = toStage ++ stagePieces codes scales alive (blockSize h) n
@@ -182,10 +182,10 @@ module _ (h : Header) (codes scales keys : List ℕ) (keyed : List Bool) (alive 
   toTable = toSecond ++ secondPieces (h .residual) codes2 scales2 alive (blockSize h) n
 
   abbrev toEntries : List ℕ
-  toEntries = toTable ++ le 4 (countsOf keyed alive n .keyed)
+  toEntries = toTable ++ leBytes 4 (countsOf keyed alive n .keyed)
 
   -- a file that is long enough for all has room for each block after what is written before it
-  module _ (old : List ℕ) (room : 0 + length (filePieces h codes scales keys keyed alive codes2 scales2 n) ≤ length old) where
+  module _ (old : List ℕ) (room : 0 + length (filePieces v h codes scales keys keyed alive codes2 scales2 n) ≤ length old) where
     whole : 0 + length (toEntries ++ inOrder (keyPiece keys keyed alive) n) ≤ length old
     unfolding filePieces
     whole = room
@@ -194,7 +194,7 @@ module _ (h : Header) (codes scales keys : List ℕ) (keyed : List Bool) (alive 
     to-entries = room-first 0 (length old) toEntries (inOrder (keyPiece keys keyed alive) n) whole
 
     to-table : 0 + length toTable ≤ length old
-    to-table = room-first 0 (length old) toTable (le 4 (countsOf keyed alive n .keyed)) to-entries
+    to-table = room-first 0 (length old) toTable (leBytes 4 (countsOf keyed alive n .keyed)) to-entries
 
     to-second : 0 + length toSecond ≤ length old
     to-second = room-first 0 (length old) toSecond (secondPieces (h .residual) codes2 scales2 alive (blockSize h) n) to-table
@@ -203,20 +203,20 @@ module _ (h : Header) (codes scales keys : List ℕ) (keyed : List Bool) (alive 
     to-stage = room-first 0 (length old) toStage (stagePieces codes scales alive (blockSize h) n) to-second
 
     pub head-room : 24 ≤ length old
-    head-room = omega (arith, room-first 0 (length old) head (widthByte h) to-stage)
+    head-room = omega (arith, room-first 0 (length old) head (widthByte v h) to-stage)
 
     module _ {at : ℕ} {mid : List ℕ} where
-      pub width-room : Put head 0 at old mid → at + length (widthByte h) ≤ length mid
-      width-room p = put-room p (widthByte h) to-stage
+      pub width-room : PutFrom head 0 at old mid → at + length (widthByte v h) ≤ length mid
+      width-room p = put-room p (widthByte v h) to-stage
 
-      pub stage-room : Put toStage 0 at old mid → at + length (stagePieces codes scales alive (blockSize h) n) ≤ length mid
+      pub stage-room : PutFrom toStage 0 at old mid → at + length (stagePieces codes scales alive (blockSize h) n) ≤ length mid
       stage-room p = put-room p (stagePieces codes scales alive (blockSize h) n) to-second
 
-      pub second-room : Put toSecond 0 at old mid → at + length (secondPieces (h .residual) codes2 scales2 alive (blockSize h) n) ≤ length mid
+      pub second-room : PutFrom toSecond 0 at old mid → at + length (secondPieces (h .residual) codes2 scales2 alive (blockSize h) n) ≤ length mid
       second-room p = put-room p (secondPieces (h .residual) codes2 scales2 alive (blockSize h) n) to-table
 
-      pub table-room : Put toTable 0 at old mid → at + 4 ≤ length mid
-      table-room p = put-room p (le 4 (countsOf keyed alive n .keyed)) to-entries
+      pub table-room : PutFrom toTable 0 at old mid → at + 4 ≤ length mid
+      table-room p = put-room p (leBytes 4 (countsOf keyed alive n .keyed)) to-entries
 
-      pub entries-room : Put toEntries 0 at old mid → at + length (inOrder (keyPiece keys keyed alive) n) ≤ length mid
+      pub entries-room : PutFrom toEntries 0 at old mid → at + length (inOrder (keyPiece keys keyed alive) n) ≤ length mid
       entries-room p = put-room p (inOrder (keyPiece keys keyed alive) n) whole

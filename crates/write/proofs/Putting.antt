@@ -9,31 +9,30 @@ use native.Mathlib.Numerals.{add-one}
 use native.Mathlib.Omega.{arith}
 use lib.ListN.{length, getD, set, take, length-append}
 use lib.Seq.{sets, length-sets, take-suc, take-length, length-take-le}
-use Rattle.lists.specs.Lists.{tab}
+use Rattle.lists.specs.Lists.{tab, joined}
 use Rattle.lists.proofs.Keep.{sets-append}
 use Rattle.digits.specs.Digits.{digits}
 use Rattle.digits.proofs.Places.{div-pow-zero, div-first, div-last}
 use Rattle.digits.proofs.Digits.{length-digits}
-use Rattle.index.specs.State.{joined}
 use Rattle.encode.specs.declared.Header.{Header}
-use Rattle.index.specs.File.{le, headBytes}
+use Rattle.index.specs.File.{leBytes, headBytes}
 use Rattle.index.proofs.Blocks.{joined-append}
-use Rattle.write.specs.Put.{Put}
+use Rattle.write.specs.Put.{PutFrom}
 use Rattle.write.specs.Pieces.{inOrder}
 
 -- ---- pieces
 
-pub put-none : (at : ℕ) (old : List ℕ) → Put [] at at old old
+pub put-none : (at : ℕ) (old : List ℕ) → PutFrom [] at at old old
 put-none at old = record { after = sym (add-zero at); written = refl }
 
-module _ {ys : List ℕ} {start at : ℕ} {old mid : List ℕ} (p : Put ys start at old mid) where
+module _ {ys : List ℕ} {start at : ℕ} {old mid : List ℕ} (p : PutFrom ys start at old mid) where
   pub put-length : length mid ≡ length old
   put-length = ap length (p .written) ∙ length-sets old start ys
 
   pub put-room : (zs : List ℕ) → start + length (ys ++ zs) ≤ length old → at + length zs ≤ length mid
   put-room zs h = omega (arith, p .after, put-length, length-append ys zs)
 
-  pub put-more : {zs : List ℕ} {next : ℕ} {new : List ℕ} → Put zs at next mid new → Put (ys ++ zs) start next old new
+  pub put-more : {zs : List ℕ} {next : ℕ} {new : List ℕ} → PutFrom zs at next mid new → PutFrom (ys ++ zs) start next old new
   put-more {zs} {next} {new} q =
       record {
         after = omega (arith, p .after, q .after, length-append ys zs);
@@ -85,18 +84,18 @@ module _ (size value at : ℕ) (old : List ℕ) where
           same = ap length byte-more ∙ length-sets old at (digits 256 (suc i) value);
         })
 
-  pub number-all : {i rest : ℕ} {file : List ℕ} → Numbered size value at old i rest file → size ≤ i → Put (le size value) at (at + size) old file
+  pub number-all : {i rest : ℕ} {file : List ℕ} → Numbered size value at old i rest file → size ≤ i → PutFrom (leBytes size value) at (at + size) old file
   number-all {i} {rest} {file} m l =
       let e : i ≡ size = omega (arith, m .few) in
       record { after = rw (length-digits 256 size value); written = rw e at (m .written) }
 
 -- the same number, known by another name
 module _ {at next : ℕ} {old new : List ℕ} where
-  pub number-is : (n v w : ℕ) → v ≡ w → Put (le n v) at next old new → Put (le n w) at next old new
+  pub number-is : (n v w : ℕ) → v ≡ w → PutFrom (leBytes n v) at next old new → PutFrom (leBytes n w) at next old new
   number-is n v w e p = rw e at p
 
-  pub head-is : (h : Header) (v w : ℕ) → v ≡ w → Put (headBytes h v) at next old new → Put (headBytes h w) at next old new
-  head-is h v w e p = rw e at p
+  pub head-is : (version : ℕ) (h : Header) (n m : ℕ) → n ≡ m → PutFrom (headBytes version h n) at next old new → PutFrom (headBytes version h m) at next old new
+  head-is version h n m e p = rw e at p
 
 -- ---- a copy
 
@@ -120,7 +119,7 @@ module _ (bytes : List ℕ) (at : ℕ) (old : List ℕ) where
     pub copy-more : Copied bytes at old (i + 1) (set file (at + i) (getD bytes i 0))
     copy-more = rw (add-one i) (record { few = omega arith; written = copied-more; same = ap length copied-more ∙ length-sets old at (take (suc i) bytes) })
 
-  pub copy-all : {i : ℕ} {file : List ℕ} → Copied bytes at old i file → length bytes ≤ i → Put bytes at (at + length bytes) old file
+  pub copy-all : {i : ℕ} {file : List ℕ} → Copied bytes at old i file → length bytes ≤ i → PutFrom bytes at (at + length bytes) old file
   copy-all {i} {file} m l =
       let e : i ≡ length bytes = omega (arith, m .few) in
       record { after = refl; written = (rw e at (m .written)) ∙ ap (sets old at) (take-length bytes) }
@@ -142,7 +141,7 @@ order-grows f i (suc n) l =
 -- the pieces of the first i of n slots are written
 pub record Run (f : ℕ → List ℕ) (n start : ℕ) (old : List ℕ) (i next : ℕ) (file : List ℕ) : Type 0 where
   pub few : i ≤ n
-  pub put : Put (inOrder f i) start next old file
+  pub put : PutFrom (inOrder f i) start next old file
 
 module _ (f : ℕ → List ℕ) (n start : ℕ) (old : List ℕ) where
   pub run-none : Run f n start old 0 start old
@@ -153,10 +152,10 @@ module _ (f : ℕ → List ℕ) (n start : ℕ) (old : List ℕ) where
     pub run-room : start + length (inOrder f n) ≤ length old → i < n → next + length (f i) ≤ length file
     run-room h l = put-room (m .put) (f i) (omega (arith, ap length (order-more f i), order-grows f (suc i) n l))
 
-    pub run-more : {last : ℕ} {new : List ℕ} → i < n → Put (f i) next last file new → Run f n start old (i + 1) last new
+    pub run-more : {last : ℕ} {new : List ℕ} → i < n → PutFrom (f i) next last file new → Run f n start old (i + 1) last new
     run-more {last} {new} l p = rw (add-one i) (record { few = omega arith; put = rw (order-more f i) (put-more (m .put) p) })
 
-    pub run-all : n ≤ i → Put (inOrder f n) start next old file
+    pub run-all : n ≤ i → PutFrom (inOrder f n) start next old file
     run-all l = let e : i ≡ n = omega (arith, m .few) in rw e at (m .put)
 
 -- ---- a piece that is written under a test
@@ -165,8 +164,8 @@ module _ (b : Bool) (bytes : List ℕ) where
   pub piece-room : (at m : ℕ) → b ≡ true → at + length (cond b bytes []) ≤ m → at + length bytes ≤ m
   piece-room at m e h = rw e at h
 
-  pub piece-put : {at next : ℕ} {old new : List ℕ} → b ≡ true → Put bytes at next old new → Put (cond b bytes []) at next old new
+  pub piece-put : {at next : ℕ} {old new : List ℕ} → b ≡ true → PutFrom bytes at next old new → PutFrom (cond b bytes []) at next old new
   piece-put e p = rw e p
 
-  pub piece-none : (at : ℕ) (old : List ℕ) → b ≡ false → Put (cond b bytes []) at at old old
+  pub piece-none : (at : ℕ) (old : List ℕ) → b ≡ false → PutFrom (cond b bytes []) at at old old
   piece-none at old e = rw e (put-none at old)

@@ -4,16 +4,15 @@ use mathlib.Core.Bool.{Bool, cond}
 use mathlib.Core.List.{List, [], _++_}
 use Prim.Native.Nat.{ℕ}
 use lib.ListN.{getD}
-use Rattle.lists.specs.Lists.{tab}
+use Rattle.lists.specs.Lists.{tab, joined, below}
 use Rattle.lists.specs.Keep.{count}
 use Rattle.half.specs.Half.{narrowed}
 use Rattle.codes.specs.Slots.{blockAt}
 use Rattle.encode.specs.declared.Header.{Header}
 use Rattle.encode.specs.Header.{blockSize}
-use Rattle.index.specs.State.{joined}
-use Rattle.index.specs.File.{le, widthByte, headBytes}
-use Rattle.held.specs.Held.{below}
-use Rattle.layout.specs.Counts.{liveAt, entryAt, countsOf}
+use Rattle.index.specs.File.{leBytes, widthByte, headBytes}
+use Rattle.marks.specs.Live.{liveAt}
+use Rattle.layout.specs.Counts.{entryAt, countsOf}
 
 -- what is written of the first n slots, one after the other
 abbrev pub inOrder : (ℕ → List ℕ) → (n : ℕ) → List ℕ
@@ -21,7 +20,7 @@ inOrder piece n = joined (tab piece n)
 
 -- a scale as a half; nothing of a dead slot
 unfoldable pub scalePiece : (scales alive : List ℕ) → (slot : ℕ) → List ℕ
-scalePiece scales alive i = cond (liveAt alive i) (le 2 (narrowed (getD scales i 0))) []
+scalePiece scales alive i = cond (liveAt alive i) (leBytes 2 (narrowed (getD scales i 0))) []
 
 -- the codes of a slot
 unfoldable pub codePiece : (codes alive : List ℕ) → (block slot : ℕ) → List ℕ
@@ -29,7 +28,7 @@ codePiece codes alive block i = cond (liveAt alive i) (blockAt block i codes) []
 
 -- a key entry: the number among the live slots, and the key
 unfoldable pub keyPiece : (keys : List ℕ) → (keyed : List Bool) → (alive : List ℕ) → (slot : ℕ) → List ℕ
-keyPiece keys keyed alive i = cond (entryAt keyed alive i) (le 4 (count (liveAt alive) (below i)) ++ le 8 (getD keys i 0)) []
+keyPiece keys keyed alive i = cond (entryAt keyed alive i) (leBytes 4 (count (liveAt alive) (below i)) ++ leBytes 8 (getD keys i 0)) []
 
 -- one stage: "scales; codes"
 unfoldable pub stagePieces : (codes scales alive : List ℕ) → (block n : ℕ) → List ℕ
@@ -39,9 +38,9 @@ stagePieces codes scales alive block n = inOrder (scalePiece scales alive) n ++ 
 unfoldable pub secondPieces : (residual : Bool) → (codes2 scales2 alive : List ℕ) → (block n : ℕ) → List ℕ
 secondPieces residual codes2 scales2 alive block n = cond residual (stagePieces codes2 scales2 alive block n) []
 
--- the whole file
-unfoldable pub filePieces : Header → (codes scales keys : List ℕ) → (keyed : List Bool) → (alive codes2 scales2 : List ℕ) → (n : ℕ) → List ℕ
-filePieces h codes scales keys keyed alive codes2 scales2 n =
-    headBytes h (countsOf keyed alive n .live) ++ widthByte h
+-- the whole file, in the version that the index is written as
+unfoldable pub filePieces : (version : ℕ) → Header → (codes scales keys : List ℕ) → (keyed : List Bool) → (alive codes2 scales2 : List ℕ) → (n : ℕ) → List ℕ
+filePieces v h codes scales keys keyed alive codes2 scales2 n =
+    headBytes v h (countsOf keyed alive n .live) ++ widthByte v h
     ++ stagePieces codes scales alive (blockSize h) n ++ secondPieces (h .residual) codes2 scales2 alive (blockSize h) n
-    ++ le 4 (countsOf keyed alive n .keyed) ++ inOrder (keyPiece keys keyed alive) n
+    ++ leBytes 4 (countsOf keyed alive n .keyed) ++ inOrder (keyPiece keys keyed alive) n

@@ -6,6 +6,6 @@ use lib.ListN.{length}
 use lib.Seq.{sets}
 
 -- the bytes stand from `at` on, `next` is the place after them, and all other places keep their contents
-pub record Put (bytes : List ℕ) (at next : ℕ) (old new : List ℕ) : Type 0 where
+pub record PutFrom (bytes : List ℕ) (at next : ℕ) (old new : List ℕ) : Type 0 where
   pub after : next ≡ at + length bytes
   pub written : new ≡ sets old at bytes

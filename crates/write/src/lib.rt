@@ -8,12 +8,12 @@ ghost use lib.ListN.{length, getD};
 ghost use Rattle.encode.specs.Header.{blockSize};
 ghost use Rattle.index.specs.Arrays.{lent};
 ghost use Rattle.index.specs.State.{headerOf};
-ghost use Rattle.index.specs.File.{le, widthByte, headBytes};
+ghost use Rattle.index.specs.File.{leBytes, widthByte, headBytes};
 ghost use Rattle.index.specs.Step as Step;
 ghost use Rattle.index.specs.Call.{call};
 ghost use Rattle.index.specs.Answers.{stored, stores};
 ghost use Rattle.layout.specs.Counts.{entryAt};
-ghost use Rattle.write.specs.Put.{Put};
+ghost use Rattle.write.specs.Put.{PutFrom};
 ghost use Rattle.write.specs.Pieces.{inOrder, scalePiece, codePiece, keyPiece, stagePieces, secondPieces, filePieces};
 use index::Index;
 use index::Written;
@@ -23,7 +23,7 @@ use index::Written;
 // A number in `size` bytes, the lowest first.
 fn put_number(file: &mut [u8], at: usize, size: usize, value: u64) -> usize
     requires { ⌜ at + size ≤ length (now file) ⌝ }
-    ensures { λ r. ⌜ Put (le size value) at r (now (file .entry)) (now (file .exit)) ⌝ }
+    ensures { λ r. ⌜ PutFrom (leBytes size value) at r (now (file .entry)) (now (file .exit)) ⌝ }
 {
     let mut rest = value;
     let mut i: usize = 0;
@@ -38,7 +38,7 @@ fn put_number(file: &mut [u8], at: usize, size: usize, value: u64) -> usize
 // A copy of other bytes.
 fn put_bytes(file: &mut [u8], at: usize, bytes: &[u8]) -> usize
     requires { ⌜ at + length (now bytes) ≤ length (now file) ⌝ }
-    ensures { λ r. ⌜ Put (now (bytes .entry)) at r (now (file .entry)) (now (file .exit)) ⌝ }
+    ensures { λ r. ⌜ PutFrom (now (bytes .entry)) at r (now (file .entry)) (now (file .exit)) ⌝ }
 {
     let mut i: usize = 0;
     while i < bytes.len() {
@@ -63,9 +63,9 @@ fn scale_of(scales: &[u32], slot: usize) -> u32
 // The scale as a half.
 fn put_scale(file: &mut [u8], at: usize, scales: &[u32], alive: &[u8], slot: usize) -> usize
     requires { ⌜ at + length (scalePiece (now scales) (now alive) slot) ≤ length (now file) ⌝ }
-    ensures { λ r. ⌜ Put (scalePiece (now (scales .entry)) (now (alive .entry)) slot) at r (now (file .entry)) (now (file .exit)) ⌝ }
+    ensures { λ r. ⌜ PutFrom (scalePiece (now (scales .entry)) (now (alive .entry)) slot) at r (now (file .entry)) (now (file .exit)) ⌝ }
 {
-    if !layout::is_live(alive, slot) {
+    if !marks::is_live(alive, slot) {
         return at;
     }
     let pattern = scale_of(scales, slot);
@@ -83,9 +83,9 @@ fn put_block(
     slot: usize,
 ) -> usize
     requires { ⌜ at + length (codePiece (now codes) (now alive) block slot) ≤ length (now file) ⌝ }
-    ensures { λ r. ⌜ Put (codePiece (now (codes .entry)) (now (alive .entry)) block slot) at r (now (file .entry)) (now (file .exit)) ⌝ }
+    ensures { λ r. ⌜ PutFrom (codePiece (now (codes .entry)) (now (alive .entry)) block slot) at r (now (file .entry)) (now (file .exit)) ⌝ }
 {
-    if layout::is_live(alive, slot) {
+    if marks::is_live(alive, slot) {
         return put_bytes(file, at, codes::slot_codes(codes, slot, block));
     }
     at
@@ -101,14 +101,14 @@ fn put_entry(
     slot: usize,
     number: usize,
 ) -> usize
-    requires { ⌜ at + length (cond (entryAt (now keyed) (now alive) slot) (le 4 number ++ le 8 (getD (now keys) slot 0)) []) ≤ length (now file) ⌝ }
+    requires { ⌜ at + length (cond (entryAt (now keyed) (now alive) slot) (leBytes 4 number ++ leBytes 8 (getD (now keys) slot 0)) []) ≤ length (now file) ⌝ }
     ensures { λ r. ⌜
-        Put (cond (entryAt (now (keyed .entry)) (now (alive .entry)) slot) (le 4 number ++ le 8 (getD (now (keys .entry)) slot 0)) [])
+        PutFrom (cond (entryAt (now (keyed .entry)) (now (alive .entry)) slot) (leBytes 4 number ++ leBytes 8 (getD (now (keys .entry)) slot 0)) [])
         at r (now (file .entry)) (now (file .exit)) ⌝ }
 {
     if layout::has_entry(keyed, alive, slot) {
         let next = put_number(file, at, 4, number as u64);
-        return put_number(file, next, 8, held::key_word(keys, slot));
+        return put_number(file, next, 8, slot_keys::key_word(keys, slot));
     }
     at
 }
@@ -117,7 +117,7 @@ fn put_entry(
 
 fn put_scales(file: &mut [u8], at: usize, scales: &[u32], alive: &[u8], n: usize) -> usize
     requires { ⌜ at + length (inOrder (scalePiece (now scales) (now alive)) n) ≤ length (now file) ⌝ }
-    ensures { λ r. ⌜ Put (inOrder (scalePiece (now (scales .entry)) (now (alive .entry))) n) at r (now (file .entry)) (now (file .exit)) ⌝ }
+    ensures { λ r. ⌜ PutFrom (inOrder (scalePiece (now (scales .entry)) (now (alive .entry))) n) at r (now (file .entry)) (now (file .exit)) ⌝ }
 {
     let mut next = at;
     let mut i: usize = 0;
@@ -137,7 +137,7 @@ fn put_codes(
     n: usize,
 ) -> usize
     requires { ⌜ at + length (inOrder (codePiece (now codes) (now alive) block) n) ≤ length (now file) ⌝ }
-    ensures { λ r. ⌜ Put (inOrder (codePiece (now (codes .entry)) (now (alive .entry)) block) n) at r (now (file .entry)) (now (file .exit)) ⌝ }
+    ensures { λ r. ⌜ PutFrom (inOrder (codePiece (now (codes .entry)) (now (alive .entry)) block) n) at r (now (file .entry)) (now (file .exit)) ⌝ }
 {
     let mut next = at;
     let mut i: usize = 0;
@@ -159,7 +159,9 @@ fn put_stage(
     n: usize,
 ) -> usize
     requires { ⌜ at + length (stagePieces (now codes) (now scales) (now alive) block n) ≤ length (now file) ⌝ }
-    ensures { λ r. ⌜ Put (stagePieces (now (codes .entry)) (now (scales .entry)) (now (alive .entry)) block n) at r (now (file .entry)) (now (file .exit)) ⌝ }
+    ensures { λ r. ⌜
+        PutFrom (stagePieces (now (codes .entry)) (now (scales .entry)) (now (alive .entry)) block n)
+        at r (now (file .entry)) (now (file .exit)) ⌝ }
 {
     let next = put_scales(file, at, scales, alive, n);
     put_codes(file, next, codes, alive, block, n)
@@ -178,7 +180,8 @@ fn put_second(
 ) -> usize
     requires { ⌜ at + length (secondPieces residual (now codes2) (now scales2) (now alive) block n) ≤ length (now file) ⌝ }
     ensures { λ r. ⌜
-        Put (secondPieces residual (now (codes2 .entry)) (now (scales2 .entry)) (now (alive .entry)) block n) at r (now (file .entry)) (now (file .exit)) ⌝ }
+        PutFrom (secondPieces residual (now (codes2 .entry)) (now (scales2 .entry)) (now (alive .entry)) block n)
+        at r (now (file .entry)) (now (file .exit)) ⌝ }
 {
     if residual {
         return put_stage(file, at, codes2, scales2, alive, block, n);
@@ -196,14 +199,16 @@ fn put_entries(
     n: usize,
 ) -> usize
     requires { ⌜ at + length (inOrder (keyPiece (now keys) (now keyed) (now alive)) n) ≤ length (now file) ⌝ }
-    ensures { λ r. ⌜ Put (inOrder (keyPiece (now (keys .entry)) (now (keyed .entry)) (now (alive .entry))) n) at r (now (file .entry)) (now (file .exit)) ⌝ }
+    ensures { λ r. ⌜
+        PutFrom (inOrder (keyPiece (now (keys .entry)) (now (keyed .entry)) (now (alive .entry))) n)
+        at r (now (file .entry)) (now (file .exit)) ⌝ }
 {
     let mut next = at;
     let mut number: usize = 0;
     let mut i: usize = 0;
     while i < n {
         next = put_entry(file, next, keys, keyed, alive, i, number);
-        if layout::is_live(alive, i) {
+        if marks::is_live(alive, i) {
             number += 1;
         }
         i += 1;
@@ -224,33 +229,34 @@ fn working_field(index: Index) -> usize
 }
 
 // The first 24 bytes: VECQ, version, working_dim, dim, seed, live count.
-fn put_head(file: &mut [u8], index: Index, live: usize) -> usize
+fn put_head(file: &mut [u8], version: u16, index: Index, live: usize) -> usize
     requires { ⌜ 24 ≤ length (now file) ⌝ }
-    ensures { λ r. ⌜ Put (headBytes (headerOf index) live) 0 r (now (file .entry)) (now (file .exit)) ⌝ }
+    ensures { λ r. ⌜ PutFrom (headBytes version (headerOf index) live) 0 r (now (file .entry)) (now (file .exit)) ⌝ }
 {
     let magic = put_number(file, 0, 4, 0x5143_4556);
-    let version = put_number(file, magic, 2, layout::version_of(index) as u64);
-    let working = put_number(file, version, 2, working_field(index) as u64);
+    let field = put_number(file, magic, 2, version as u64);
+    let working = put_number(file, field, 2, working_field(index) as u64);
     let dim = put_number(file, working, 4, index.dim as u64);
     let seed = put_number(file, dim, 8, index.seed);
     put_number(file, seed, 4, live as u64)
 }
 
-// The width byte, which version 261 alone has.
-fn put_width(file: &mut [u8], at: usize, index: Index) -> usize
-    requires { ⌜ at + length (widthByte (headerOf index)) ≤ length (now file) ⌝ }
-    ensures { λ r. ⌜ Put (widthByte (headerOf index)) at r (now (file .entry)) (now (file .exit)) ⌝ }
+// The width byte, where the version has one.
+fn put_width(file: &mut [u8], at: usize, version: u16, index: Index) -> usize
+    requires { ⌜ at + length (widthByte version (headerOf index)) ≤ length (now file) ⌝ }
+    ensures { λ r. ⌜ PutFrom (widthByte version (headerOf index)) at r (now (file .entry)) (now (file .exit)) ⌝ }
 {
-    if layout::version_of(index) == 261 {
+    if form::form_of(version).width {
         file[at] = index.bits;
         return at + 1;
     }
     at
 }
 
-// The whole file, a block of codes being so many bytes.
+// The whole file in this version, a block of codes being so many bytes.
 fn put_file(
     file: &mut [u8],
+    version: u16,
     index: Index,
     block: usize,
     codes: &[u8],
@@ -263,16 +269,16 @@ fn put_file(
 ) -> usize
     requires { ⌜ block ≡ blockSize (headerOf index) ⌝ }
     requires { ⌜
-        0 + length (filePieces (headerOf index) (now codes) (now scales) (now keys) (now keyed) (now alive) (now codes2) (now scales2) (index .n))
+        0 + length (filePieces version (headerOf index) (now codes) (now scales) (now keys) (now keyed) (now alive) (now codes2) (now scales2) (index .n))
         ≤ length (now file) ⌝ }
     ensures { λ r. ⌜
-        Put (filePieces (headerOf index) (now (codes .entry)) (now (scales .entry)) (now (keys .entry)) (now (keyed .entry)) (now (alive .entry))
+        PutFrom (filePieces version (headerOf index) (now (codes .entry)) (now (scales .entry)) (now (keys .entry)) (now (keyed .entry)) (now (alive .entry))
         (now (codes2 .entry)) (now (scales2 .entry)) (index .n)) 0 r (now (file .entry)) (now (file .exit)) ⌝ }
 {
     let n = index.n;
     let counts = layout::count_slots(keyed, alive, n);
-    let width = put_head(file, index, counts.live);
-    let first = put_width(file, width, index);
+    let width = put_head(file, version, index, counts.live);
+    let first = put_width(file, width, version, index);
     let second = put_stage(file, first, codes, scales, alive, block, n);
     let table = put_second(
         file,
@@ -302,7 +308,8 @@ pub fn to_bytes(
     file: &mut [u8],
 ) -> Written
     ensures { λ r. ⌜
-        stored index (lent (codes .entry) (scales .entry) (keys .entry) (keyed .entry) (held .entry) (alive .entry) (codes2 .entry) (scales2 .entry)) r (now (file .exit))
+        stored index (lent (codes .entry) (scales .entry) (keys .entry) (keyed .entry) (held .entry) (alive .entry) (codes2 .entry) (scales2 .entry))
+        r (now (file .exit))
         ≡ stores (call index (lent (codes .entry) (scales .entry) (keys .entry) (keyed .entry) (held .entry) (alive .entry) (codes2 .entry) (scales2 .entry))
         (Step.write (length (now (file .entry))))) (now (file .entry)) ⌝ }
 {
@@ -325,6 +332,7 @@ pub fn to_bytes(
     }
     put_file(
         file,
+        form::version_of(index),
         index,
         layout::block_size(index),
         codes,

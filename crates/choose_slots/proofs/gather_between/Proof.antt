@@ -2,7 +2,7 @@
 use Prim.Native.Nat.{_-_}
 use native.Mathlib.Omega.{arith}
 use lib.ListN.{length}
-use Rattle.choose_slots.specs.Steps.{picked, gathered}
+use Rattle.choose_slots.specs.Steps.{picked, pickedAround}
 use Rattle.choose_slots.proofs.Gathering.{gathered-parts, three-runs}
 use Rattle.choose_slots.proofs.gather_between.Statement.{statement}
 use Rattle.choose_slots.proofs.gather_between.Tie as tie
@@ -29,7 +29,7 @@ same-length : tie.Need-same-length
 same-length c = omega arith
 
 returns : tie.Need-returns
-unfolding gathered
+unfolding pickedAround
 returns c =
     let s = c .before .before .before .before .before .before .before .before .before .before .before .before .before .before in
     let one = c .before .before .before .before .before .before .before .before .before .before .gather in

@@ -12,7 +12,7 @@ use Rattle.choose.specs.Falling.{falling}
 use Rattle.lists.proofs.Keep.{each-getD, count-length}
 use Rattle.sort_slots.specs.Sort.{orderAt}
 use Rattle.choose_slots.specs.Slots.{listed}
-use Rattle.choose_slots.specs.Steps.{between, gathered}
+use Rattle.choose_slots.specs.Steps.{inRange, pickedAround}
 use Rattle.choose_slots.proofs.Listing.{t-positive, end-there, start-there, gathered-right}
 use Rattle.choose_slots.proofs.gather_chosen.Statement.{statement}
 use Rattle.choose_slots.proofs.gather_chosen.Tie as tie
@@ -102,10 +102,10 @@ module _ (c : tie.After-slot-after2) where
   before : b ≤ e
   before = omega (arith, c .slot-after2 .ensures .0, length-take (e - 0) orders)
 
-  passed : count (between (t - 1) t) (take b (take e orders)) ≡ count (ltb t) (drop e orders)
+  passed : count (inRange (t - 1) t) (take b (take e orders)) ≡ count (ltb t) (drop e orders)
   passed = rw (sub-zero e) at (c .slot-after2 .ensures .1) ∙ displaced (c .before .before)
 
-  right : (length (gathered t b e orders) ≡ n) × (falling (orderAt orders) (gathered t b e orders) ≡ listed orders n)
+  right : (length (pickedAround t b e orders) ≡ n) × (falling (orderAt orders) (pickedAround t b e orders) ≡ listed orders n)
   right =
       gathered-right orders n t (s .pre .1) (s .pre .2) (c .before .before .before .before .before .nth-highest .ensures) 4294967295 (small (c .before .before .before .before .before .before .before)) e
       (c .before .before .before .before .slot-after .ensures .1) b before passed

@@ -2,13 +2,13 @@
 use Prim.Native.Nat.{_≤_, _<_, _-_}
 use native.Mathlib.Omega.{arith}
 use lib.ListN.{length}
-use Rattle.choose_slots.specs.Steps.{between}
+use Rattle.choose_slots.specs.Steps.{inRange}
 use Rattle.choose_slots.proofs.Counting.{one-at-most, Counted, counted-more, counted-below}
 use Rattle.choose_slots.proofs.slot_after.Statement.{statement}
 use Rattle.choose_slots.proofs.slot_after.Tie as tie
 
 abbrev Inv-loop : tie.InvT-loop
-Inv-loop orders low high n seen₀ i₀ seen i = Counted (between low high) orders seen i × (seen ≤ n)
+Inv-loop orders low high n seen₀ i₀ seen i = Counted (inRange low high) orders seen i × (seen ≤ n)
 
 abbrev μ-loop : tie.MeasureT-loop
 μ-loop orders low high n seen₀ i₀ seen i = length orders - i

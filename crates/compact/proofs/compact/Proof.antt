@@ -1,11 +1,11 @@
 -- `compact::compact` meets its contract.
-use mathlib.Core.Path.{sym, ap, _∙_}
-use borrow.Author.Needs.{needs}
+use mathlib.Core.Path.{refl, sym, ap, _∙_}
 use Rattle.index.specs.Arrays.{Arrays, lent}
 use Rattle.index.specs.Step as Step
 use Rattle.index.proofs.Calls.{call-misfit}
 use Rattle.compact.specs.Gathered.{withKept}
-use Rattle.compact.proofs.Arrays.{places-room, whole-size, first-room, marks-room, second-room, closed-up, compacted-call}
+use Rattle.layout.proofs.Counting.{whole-block}
+use Rattle.compact.proofs.Arrays.{places-room, first-room, marks-room, second-room, closed-up, compacted-call}
 use Rattle.compact.proofs.compact.Statement.{statement}
 use Rattle.compact.proofs.compact.Tie as tie
 
@@ -13,7 +13,7 @@ abbrev arrays : tie.Start → Arrays
 arrays s = lent (s .args .codes) (s .args .scales) (s .args .keys) (s .args .keyed) (s .args .held) (s .args .alive) (s .args .codes2) (s .args .scales2)
 
 fits-requires : tie.Need-fits-requires
-fits-requires c κs = search needs
+fits-requires c κs = tt
 
 live-slots-requires : tie.Need-live-slots-requires
 live-slots-requires c κs =
@@ -22,25 +22,25 @@ live-slots-requires c κs =
     places-room (s .args .index) (arrays s) e
 
 block-size-requires : tie.Need-block-size-requires
-block-size-requires c κs = search needs
+block-size-requires c κs = tt
 
 gather-stage-requires : tie.Need-gather-stage-requires
 gather-stage-requires c κs =
     let s = c .before .before .before .before .before .before .before .before .before .before .before .before .before .before .before .before .before .before .before .before .before .before .before .before .before .before .before in
     let e = sym (c .before .before .before .before .before .before .before .before .before .before .fits2 .ensures) ∙ c .before .before .before .before .before .before .before .before .before .if1 .taken in
     let v = c .before .before .before .before .before .before .live-slots .ensures in
-    let w = whole-size (s .args .index) (arrays s) e _ (c .before .before .before .block-size .ensures) in
+    let w = whole-block (s .args .index) (arrays s) e _ (c .before .before .before .block-size .ensures) in
     first-room (s .args .index) (arrays s) e _ _ (v .1) (v .0) _ w
 
 second-stages-requires : tie.Need-second-stages-requires
-second-stages-requires c κs = search needs
+second-stages-requires c κs = tt
 
 gather-stage-requires-2 : tie.Need-gather-stage-requires-2
 gather-stage-requires-2 c κs =
     let s = c .before .before .before .before .before .before .before .before .before .before .before .before .before .before .before .before .before .before .before .before .before .before .before .before .before .before .before .before .before .before .before .before .before .before .before .before in
     let e = sym (c .before .before .before .before .before .before .before .before .before .before .before .before .before .before .before .before .before .before .before .fits2 .ensures) ∙ c .before .before .before .before .before .before .before .before .before .before .before .before .before .before .before .before .before .before .if1 .taken in
     let v = c .before .before .before .before .before .before .before .before .before .before .before .before .before .before .before .live-slots .ensures in
-    let w = whole-size (s .args .index) (arrays s) e _ (c .before .before .before .before .before .before .before .before .before .before .before .before .block-size .ensures) in
+    let w = whole-block (s .args .index) (arrays s) e _ (c .before .before .before .before .before .before .before .before .before .before .before .before .block-size .ensures) in
     second-room (s .args .index) (arrays s) e _ _ (v .1) (v .0) _ _ w (c .second-stages .ensures)
 
 gather-marks-requires : tie.Need-gather-marks-requires
@@ -51,38 +51,50 @@ gather-marks-requires c κs =
     marks-room (s .args .index) (arrays s) e _ _ (v .1) (v .0)
 
 with-kept-requires : tie.Need-with-kept-requires
-with-kept-requires c κs = search needs
+with-kept-requires c κs = tt
+
+abbrev listed : tie.After-with-kept → tie.After-live-slots
+listed c = c .before .before .before .before .before .before .before .before .before .before .before .before .before .before .before .before .before .before .before .before .before .before .before .before .before .before .before .before .before .before .before .before .before .before
+
+abbrev first-stage : tie.After-with-kept → tie.After-gather-stage
+first-stage c = c .before .before .before .before .before .before .before .before .before .before .before .before .before .before .before .before .before .before .before .before .before .before .before .before .before .before .before
+
+abbrev second-stage : tie.After-with-kept → tie.After-gather-stage2
+second-stage c = c .before .before .before .before .before .before .before .before .before .before .before .before .before .before .before .before .before .before
+
+abbrev marked : tie.After-with-kept → tie.After-gather-marks
+marked c = c .before .before .before .before .before .before .before .before .before
 
 same-length : tie.Need-same-length
-same-length c = search needs
+same-length c = first-stage c .gather-stage .kept .0
 
 same-length-2 : tie.Need-same-length-2
-same-length-2 c = search needs
+same-length-2 c = first-stage c .gather-stage .kept .1 .0
 
 same-length-3 : tie.Need-same-length-3
-same-length-3 c = search needs
+same-length-3 c = marked c .gather-marks .kept .0
 
 same-length-4 : tie.Need-same-length-4
-same-length-4 c = search needs
+same-length-4 c = marked c .gather-marks .kept .1 .0
 
 same-length-5 : tie.Need-same-length-5
-same-length-5 c = c .before .before .before .before .before .before .before .before .before .gather-marks .kept .1 .1 .0 ∙ c .before .before .before .before .before .before .before .before .before .before .before .before .before .before .before .before .before .before .before .before .before .before .before .before .before .before .before .before .before .before .before .before .before .before .live-slots .kept .1 .1 .0
+same-length-5 c = marked c .gather-marks .kept .1 .1 .0 ∙ listed c .live-slots .kept .1 .1 .0
 
 same-length-6 : tie.Need-same-length-6
-same-length-6 c = search needs
+same-length-6 c = marked c .gather-marks .kept .1 .1 .1 .0
 
 same-length-7 : tie.Need-same-length-7
-same-length-7 c = search needs
+same-length-7 c = second-stage c .gather-stage2 .kept .0
 
 same-length-8 : tie.Need-same-length-8
-same-length-8 c = search needs
+same-length-8 c = second-stage c .gather-stage2 .kept .1 .0
 
 returns : tie.Need-returns
 returns c =
     let s = c .before .before .before .before .before .before .before .before .before .before .before .before .before .before .before .before .before .before .before .before .before .before .before .before .before .before .before .before .before .before .before .before .before .before .before .before .before .before .before .before .before .before .before .before .before .before .before .before .before .before .before .before .before .before .before in
     let e = sym (c .before .before .before .before .before .before .before .before .before .before .before .before .before .before .before .before .before .before .before .before .before .before .before .before .before .before .before .before .before .before .before .before .before .before .before .before .before .before .fits2 .ensures) ∙ c .before .before .before .before .before .before .before .before .before .before .before .before .before .before .before .before .before .before .before .before .before .before .before .before .before .before .before .before .before .before .before .before .before .before .before .before .before .if1 .taken in
     let v = c .before .before .before .before .before .before .before .before .before .before .before .before .before .before .before .before .before .before .before .before .before .before .before .before .before .before .before .before .before .before .before .before .before .before .live-slots .ensures in
-    let w = whole-size (s .args .index) (arrays s) e _ (c .before .before .before .before .before .before .before .before .before .before .before .before .before .before .before .before .before .before .before .before .before .before .before .before .before .before .before .before .before .before .before .block-size .ensures) in
+    let w = whole-block (s .args .index) (arrays s) e _ (c .before .before .before .before .before .before .before .before .before .before .before .before .before .before .before .before .before .before .before .before .before .before .before .before .before .before .before .before .before .before .before .block-size .ensures) in
     let first = c .before .before .before .before .before .before .before .before .before .before .before .before .before .before .before .before .before .before .before .before .before .before .before .before .before .before .before .gather-stage .ensures in
     let second = c .before .before .before .before .before .before .before .before .before .before .before .before .before .before .before .before .before .before .gather-stage2 .ensures in
     let marks = c .before .before .before .before .before .before .before .before .before .gather-marks .ensures in
@@ -104,28 +116,28 @@ returns c =
     }))
 
 same-length-9 : tie.Need-same-length-9
-same-length-9 c = search needs
+same-length-9 c = refl
 
 same-length-10 : tie.Need-same-length-10
-same-length-10 c = search needs
+same-length-10 c = refl
 
 same-length-11 : tie.Need-same-length-11
-same-length-11 c = search needs
+same-length-11 c = refl
 
 same-length-12 : tie.Need-same-length-12
-same-length-12 c = search needs
+same-length-12 c = refl
 
 same-length-13 : tie.Need-same-length-13
-same-length-13 c = search needs
+same-length-13 c = refl
 
 same-length-14 : tie.Need-same-length-14
-same-length-14 c = search needs
+same-length-14 c = refl
 
 same-length-15 : tie.Need-same-length-15
-same-length-15 c = search needs
+same-length-15 c = refl
 
 same-length-16 : tie.Need-same-length-16
-same-length-16 c = search needs
+same-length-16 c = refl
 
 returns-2 : tie.Need-returns-2
 returns-2 c =

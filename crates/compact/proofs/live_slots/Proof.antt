@@ -2,7 +2,6 @@
 use mathlib.Core.Logic.{⊎-elim}
 use Prim.Native.Nat.{_-_}
 use native.Mathlib.Omega.{arith}
-use borrow.Author.Needs.{needs}
 use Rattle.compact.proofs.Gathering.{Listed, listed-none, listed-length, listed-few, listed-same, listed-more, listed-all}
 use Rattle.compact.proofs.live_slots.Statement.{statement}
 use Rattle.compact.proofs.live_slots.Tie as tie
@@ -17,7 +16,7 @@ loop-holds : tie.Need-loop-holds Inv-loop μ-loop
 loop-holds c = listed-none _ _ _ (c .before .before .pre .0)
 
 live-mark-requires : tie.Need-live-mark-requires Inv-loop μ-loop
-live-mark-requires c κs = search needs
+live-mark-requires c κs = tt
 
 mul-slots : tie.Need-mul-slots Inv-loop μ-loop
 mul-slots c = omega (arith, listed-few _ _ _ (c .before .before .before .before .before .before .pre .0) (c .before .before .before .loop .inv))

@@ -5,12 +5,12 @@ use native.Mathlib.Omega.{arith}
 use lib.ListN.{getD}
 use borrow.Author.Needs.{needs}
 use Rattle.chains.proofs.Chains.{Walk, walk-start, walk-keyed, walk-on, walk-found, walk-none}
-use Rattle.distinct.specs.Places.{keysAt, keyedAt}
+use Rattle.distinct.specs.Places.{keysListed, keyedAt}
 use Rattle.distinct.proofs.find.Statement.{statement}
 use Rattle.distinct.proofs.find.Tie as tie
 
 abbrev Inv-loop : tie.InvT-loop
-Inv-loop keys keyed slots before place first key entry₀ entry = Walk (keysAt keys slots) (keyedAt keyed slots) (getD (keysAt keys slots) place 0) place entry
+Inv-loop keys keyed slots before place first key entry₀ entry = Walk (keysListed keys slots) (keyedAt keyed slots) (getD (keysListed keys slots) place 0) place entry
 
 abbrev μ-loop : tie.MeasureT-loop
 μ-loop keys keyed slots before place first key entry₀ entry = entry

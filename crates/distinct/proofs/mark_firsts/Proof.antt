@@ -1,14 +1,14 @@
 -- `distinct::mark_firsts` meets its contract.
 use Prim.Native.Nat.{_-_}
 use native.Mathlib.Omega.{arith}
-use Rattle.distinct.specs.Places.{keysAt, keyedAt}
+use Rattle.distinct.specs.Places.{keysListed, keyedAt}
 use borrow.Author.Needs.{needs}
 use Rattle.distinct.proofs.Places.{Marking, marking-none, marking-more, marking-all}
 use Rattle.distinct.proofs.mark_firsts.Statement.{statement}
 use Rattle.distinct.proofs.mark_firsts.Tie as tie
 
 abbrev Inv-loop : tie.InvT-loop
-Inv-loop keys keyed slots heads₀ before₀ firsts₀ n i₀ heads before firsts i = Marking (keysAt keys slots) (keyedAt keyed slots) n heads₀ before₀ firsts₀ heads before firsts i
+Inv-loop keys keyed slots heads₀ before₀ firsts₀ n i₀ heads before firsts i = Marking (keysListed keys slots) (keyedAt keyed slots) n heads₀ before₀ firsts₀ heads before firsts i
 
 abbrev μ-loop : tie.MeasureT-loop
 μ-loop keys keyed slots heads₀ before₀ firsts₀ n i₀ heads before firsts i = n - i

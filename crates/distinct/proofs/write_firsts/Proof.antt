@@ -1,14 +1,14 @@
 -- `distinct::write_firsts` meets its contract.
 use Prim.Native.Nat.{_-_}
 use native.Mathlib.Omega.{arith}
-use Rattle.distinct.specs.Places.{keysAt}
+use Rattle.distinct.specs.Places.{keysListed}
 use borrow.Author.Needs.{needs}
 use Rattle.distinct.proofs.Writing.{Writing, writing-none, writing-few, writing-more, writing-all}
 use Rattle.distinct.proofs.write_firsts.Statement.{statement}
 use Rattle.distinct.proofs.write_firsts.Tie as tie
 
 abbrev Inv-loop : tie.InvT-loop
-Inv-loop keys slots hits firsts names₀ scores₀ n many₀ i₀ names scores many i = Writing (keysAt keys slots) hits firsts n names₀ scores₀ many names scores i
+Inv-loop keys slots hits firsts names₀ scores₀ n many₀ i₀ names scores many i = Writing (keysListed keys slots) hits firsts n names₀ scores₀ many names scores i
 
 abbrev μ-loop : tie.MeasureT-loop
 μ-loop keys slots hits firsts names₀ scores₀ n many₀ i₀ names scores many i = n - i

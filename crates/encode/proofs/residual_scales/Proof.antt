@@ -1,5 +1,5 @@
 use Rattle.unit.proofs.Vectors.{norm-is}
-use Rattle.encode.proofs.Stages.{joined-norm-is, first-scale-is, second-scale-is}
+use Rattle.encode.proofs.Residual.{joined-norm-is, first-scale-is, second-scale-is}
 use borrow.Author.Needs.{needs}
 use Rattle.encode.proofs.residual_scales.Statement.{statement}
 use Rattle.encode.proofs.residual_scales.Tie as tie

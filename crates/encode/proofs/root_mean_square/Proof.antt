@@ -1,11 +1,11 @@
-use Rattle.encode.proofs.Stages.{few-enough, root-mean-square-is}
+use Rattle.encode.proofs.Residual.{few-enough, root-mean-square-is}
 use borrow.Author.Needs.{needs}
 use Rattle.encode.proofs.root_mean_square.Statement.{statement}
 use Rattle.encode.proofs.root_mean_square.Tie as tie
 use Rattle.encode.proofs.root_mean_square.Reads as reads
 use Rattle.encode.proofs.root_mean_square.Lts as lts
 use Rattle.encode.proofs.at_least_floor.Reads as at-least-floor-reads
-use Rattle.unit.proofs.sum_squares.Reads as sum-squares-reads
+use Rattle.vectors.proofs.sum_squares.Reads as sum-squares-reads
 use Rattle.sqrt.proofs.sqrt.Reads as sqrt-reads
 
 sum-squares-requires : tie.Need-sum-squares-requires

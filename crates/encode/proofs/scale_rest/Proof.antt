@@ -1,11 +1,11 @@
 use native.Mathlib.Omega.{arith}
-use Rattle.encode.proofs.Stages.{scaled-is}
+use Rattle.encode.proofs.Residual.{scaled-is}
 use borrow.Author.Needs.{needs}
 use Rattle.encode.proofs.scale_rest.Statement.{statement}
 use Rattle.encode.proofs.scale_rest.Tie as tie
 use Rattle.encode.proofs.scale_rest.Reads as reads
 use Rattle.encode.proofs.scale_rest.Lts as lts
-use Rattle.unit.proofs.divide.Reads as divide-reads
+use Rattle.vectors.proofs.divide.Reads as divide-reads
 use Rattle.encode.proofs.root_mean_square.Reads as root-mean-square-reads
 use Rattle.encode.proofs.subtract.Reads as subtract-reads
 

@@ -1,8 +1,6 @@
 use native.Mathlib.Omega.{arith}
-use mathlib.Core.Path.{refl}
-use Rattle.stage.proofs.Fit.{fits-of}
-use Rattle.stage.proofs.Stages.{stored-yes}
-use Rattle.encode.proofs.Stages.{residual-is}
+use Rattle.encode.proofs.Fit.{fits-of, codable-same}
+use Rattle.encode.proofs.Residual.{residual-is}
 use borrow.Author.Needs.{needs}
 use Rattle.encode.proofs.store_residual.Statement.{statement}
 use Rattle.encode.proofs.store_residual.Tie as tie
@@ -10,16 +8,20 @@ use Rattle.encode.proofs.store_residual.Reads as reads
 use Rattle.encode.proofs.store_residual.Lts as lts
 use Rattle.encode.proofs.residual_scales.Reads as residual-scales-reads
 use Rattle.encode.proofs.scale_rest.Reads as scale-rest-reads
-use Rattle.stage.proofs.store.Reads as store-reads
+use Rattle.encode.proofs.store.Reads as store-reads
 
 store-requires : tie.Need-store-requires
-store-requires c κs = search needs
+store-requires c κs = (c .before .before .before .before .before .before .before .before .before .before .pre .0, c .before .before .before .before .before .before .before .before .before .before .pre .1 .1 .0)
 
 scale-rest-requires : tie.Need-scale-rest-requires
 scale-rest-requires c κs = (fits-of _ _ _ _ (c .before .before .before .before .before .before .before .before .before .before .before .before .before .before .before .before .before .pre .0) .most, search needs)
 
 store-requires-2 : tie.Need-store-requires-2
-store-requires-2 c κs = search needs
+store-requires-2 c κs =
+    let s = c .before .before .before .before .before .before .before .before .before .before .before .before .before .before .before .before .before .before .before .before .before .before .before in
+    let rest = c .before .before .before .before .before .scale-rest .kept in
+    let first = c .before .before .before .before .before .before .before .before .before .before .before .before .store .kept in
+    (codable-same _ _ _ _ (s .pre .0) (omega (arith, rest, first, s .pre .1)) (omega (arith, rest, first, s .pre .1)), omega (arith, rest, first, s .pre .1))
 
 residual-scales-requires : tie.Need-residual-scales-requires
 residual-scales-requires c κs = omega (arith, c .before .before .before .before .before .before .store2 .kept, c .before .before .before .before .before .before .before .before .before .before .before .before .scale-rest .kept, c .before .before .before .before .before .before .before .before .before .before .before .before .before .before .before .before .before .before .before .store .kept, c .before .before .before .before .before .before .before .before .before .before .before .before .before .before .before .before .before .before .before .before .before .before .before .before .before .before .before .before .before .before .pre)
@@ -41,10 +43,9 @@ same-length-5 c = omega (arith, c .before .before .before .before .before .befor
 
 returns : tie.Need-returns
 returns c =
-    let s = c .before .before .before .before .before .before .before .before .before .before .before .before .before .before .before .before .before .before .before .before .before .before .before .before .before .before .before .before .before .before .before in
-    let first = stored-yes _ _ _ _ _ _ _ _ _ (c .before .before .before .before .before .before .before .before .before .before .before .before .before .before .before .before .before .before .before .before .store .ensures) _ _ (s .pre .0) refl refl (s .pre .1 .1 .0) in
+    let first = c .before .before .before .before .before .before .before .before .before .before .before .before .before .before .before .before .before .before .before .before .store .ensures in
     let rest = c .before .before .before .before .before .before .before .before .before .before .before .before .before .scale-rest .ensures in
-    let second = stored-yes _ _ _ _ _ _ _ _ _ (c .before .before .before .before .before .before .before .store2 .ensures) _ _ (s .pre .0) (omega (arith, c .before .before .before .before .before .before .before .before .before .before .before .before .before .scale-rest .kept, c .before .before .before .before .before .before .before .before .before .before .before .before .before .before .before .before .before .before .before .before .store .kept, s .pre .1)) (omega (arith, c .before .before .before .before .before .before .before .before .before .before .before .before .before .scale-rest .kept, c .before .before .before .before .before .before .before .before .before .before .before .before .before .before .before .before .before .before .before .before .store .kept, s .pre .1)) (omega (arith, c .before .before .before .before .before .before .before .before .before .before .before .before .before .scale-rest .kept, c .before .before .before .before .before .before .before .before .before .before .before .before .before .before .before .before .before .before .before .before .store .kept, s .pre .1)) in
+    let second = c .before .before .before .before .before .before .before .store2 .ensures in
     let scales = c .residual-scales .ensures in
     residual-is _ _ _ _ _ _ _ _ _ _ _ _ _ _ (first .0) (first .1) (rest .0) (rest .1) (second .0) (second .1) (scales .0) (scales .1)
 

@@ -1,5 +1,5 @@
 use Rattle.encode.specs.Encode.{differences}
-use Rattle.unit.proofs.Filling.{Filled}
+use Rattle.vectors.proofs.Filling.{Filled}
 use Rattle.encode.proofs.Filling.{differences-none, differences-next, differences-all}
 use Prim.Native.Nat.{_-_}
 use lib.ListN.{length}

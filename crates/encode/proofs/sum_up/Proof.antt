@@ -1,5 +1,5 @@
 use native.Mathlib.Omega.{arith}
-use Rattle.unit.proofs.Sums.{Squares, squares-none, squares-next, squares-all}
+use Rattle.vectors.proofs.Sums.{Squares, squares-none, squares-next, squares-all}
 use Rattle.encode.proofs.Sums.{Products, products-none, products-next, products-all}
 use Rattle.encode.proofs.sum_up.Statement.{statement}
 use Rattle.encode.proofs.sum_up.Tie as tie

@@ -5,8 +5,8 @@ use Prim.Native.Nat.{_-_, _≤_}
 use native.Mathlib.Omega.{arith}
 use lib.ListN.{length, getD}
 use borrow.Author.Needs.{needs}
-use Rattle.position_tree.specs.Decides.{Decides}
-use Rattle.position_tree.proofs.Decides.{gathered-none, gathered-more}
+use Rattle.positions.specs.Decides.{Decides}
+use Rattle.positions.proofs.Decides.{gathered-none, gathered-more}
 use Rattle.fit.specs.Fits.{Marked, EachMarked}
 use Rattle.fit.proofs.each_fits.Statement.{statement}
 use Rattle.fit.proofs.each_fits.Tie as tie

@@ -3,7 +3,7 @@ use mathlib.Core.Path.{_∙_, sym}
 use mathlib.Core.Bool.{true≢false}
 use native.Mathlib.Omega.{arith}
 use borrow.Author.Tests.{eqb-true, eq-eqb}
-use Rattle.position_tree.proofs.Decides.{holds, fails, decided}
+use Rattle.positions.proofs.Decides.{holds, fails, decided}
 use Rattle.fit.proofs.fields_fit.Statement.{statement}
 use Rattle.fit.proofs.fields_fit.Tie as tie
 

@@ -4,7 +4,7 @@ use native.Mathlib.Omega.{arith}
 use borrow.Author.Needs.{needs}
 use Rattle.index.specs.Arrays.{Arrays, lent}
 use Rattle.index.specs.State.{headerOf}
-use Rattle.position_tree.proofs.Decides.{same, decides-false}
+use Rattle.positions.proofs.Decides.{same, decides-false}
 use Rattle.positions.proofs.Slots.{positions-meaning}
 use Rattle.fit.proofs.Rooms.{in-width, enough, keys-room}
 use Rattle.fit.proofs.Meaning.{meaning}

@@ -3,10 +3,10 @@ use mathlib.Core.Path.{sym, _∙_}
 use native.Mathlib.Nat.{sub-zero}
 use native.Mathlib.Omega.{arith}
 use lib.Seq.{length-take-le}
-use Rattle.position_tree.specs.Decides.{Decides}
+use Rattle.positions.specs.Decides.{Decides}
 use Rattle.fit.specs.Fits.{EachMarked}
 use borrow.Author.Tests.{eqb-true, eq-eqb}
-use Rattle.position_tree.proofs.Decides.{fails, decided}
+use Rattle.positions.proofs.Decides.{fails, decided}
 use Rattle.fit.proofs.Marks.{front-each, front-low, front-live}
 use borrow.Author.Needs.{needs}
 use Rattle.fit.proofs.marks_fit.Statement.{statement}

@@ -5,9 +5,11 @@ use native.Mathlib.Omega.{arith}
 use borrow.Author.Tests.{lt-ltb, le-ltb, ne-eqb, not-true, not-false}
 use lib.Dec.{ltb}
 use lib.ListN.{length}
+use Rattle.index.specs.declared.Form.{Form}
+use Rattle.index.specs.Form.{stagesAt}
 use Rattle.index.specs.Step.{firstOf}
-use Rattle.index.specs.Read.{known, littleEndian, versionIn, dimIn, workingField, headFault}
-use Rattle.header.specs.Head.{widthOf, headLength}
+use Rattle.index.specs.Read.{littleEndian, formIn, dimIn, workingField, headFault}
+use Rattle.header.specs.Head.{widthOf}
 use borrow.Author.Needs.{needs}
 use Rattle.header.proofs.head_fault.Statement.{statement}
 use Rattle.header.proofs.head_fault.Tie as tie
@@ -20,19 +22,22 @@ long c = le-ltb _ _ (c .if1 .left)
 named : (c : tie.Else2) → littleEndian 4 (c .before .before .before .before .args .file .now) ≡ 0x5143_4556
 named c = sym (c .before .rd-u32 .ensures) ∙ c .if2 .left
 
-version-known : (c : tie.Else3) → known (versionIn (c .before .before .before .before .before .before .before .args .file .now)) ≡ true
-version-known c = sym (c .before .is-known .ensures ∙ ap known (c .before .before .version-in .ensures)) ∙ not-false _ (c .if3 .left)
+form-is : (c : tie.After-form-in) → c .form-in .result ≡ formIn (c .before .before .before .before .before .args .file .now)
+form-is c = c .form-in .ensures
 
-version-unknown : (c : tie.Then3) → known (versionIn (c .before .before .before .before .before .before .before .args .file .now)) ≡ false
-version-unknown c = sym (c .before .is-known .ensures ∙ ap known (c .before .before .version-in .ensures)) ∙ not-true _ (c .if3 .taken)
+version-known : (c : tie.Else3) → formIn (c .before .before .before .before .before .before .before .args .file .now) .known ≡ true
+version-known c = sym (ap (λ (f : Form). f .known) (form-is (c .before .before))) ∙ not-false _ (c .if3 .left)
+
+version-unknown : (c : tie.Then3) → formIn (c .before .before .before .before .before .before .before .args .file .now) .known ≡ false
+version-unknown c = sym (ap (λ (f : Form). f .known) (form-is (c .before .before))) ∙ not-true _ (c .if3 .taken)
 
 working-low : (c : tie.Else4) → let f = c .before .before .before .before .before .before .before .before .before .before .args .file .now in ltb (dimIn f) (workingField f) ≡ false
 working-low c =
     let f = c .before .before .before .before .before .before .before .before .before .before .args .file .now in
     le-ltb (dimIn f) (workingField f) (omega (arith, c .if4 .left, c .before .working-field .ensures, c .before .before .dim-in .ensures))
 
-head-there : (c : tie.Else5) → let f = c .before .before .before .before .before .before .before .before .before .before .before .before .args .file .now in ltb (length f) (headLength (versionIn f)) ≡ false
-head-there c = le-ltb _ _ (rw (c .before .head-length .ensures, c .before .before .before .before .before .before .before .version-in .ensures) at (c .if5 .left))
+head-there : (c : tie.Else5) → let f = c .before .before .before .before .before .before .before .before .before .before .before .before .args .file .now in ltb (length f) (stagesAt (formIn f)) ≡ false
+head-there c = le-ltb _ _ (rw (c .before .head-length .ensures, form-is (c .before .before .before .before .before .before .before)) at (c .if5 .left))
 
 returns : tie.Need-returns
 unfolding headFault firstOf littleEndian
@@ -45,11 +50,8 @@ returns-2 : tie.Need-returns-2
 unfolding headFault firstOf littleEndian
 returns-2 c = rw (long (c .before .before), ne-eqb (littleEndian 4 (c .before .before .before .before .args .file .now)) 0x5143_4556 (λ e. c .if2 .taken (c .before .rd-u32 .ensures ∙ e)))
 
-version-in-requires : tie.Need-version-in-requires
-version-in-requires c κs = search needs
-
-is-known-requires : tie.Need-is-known-requires
-is-known-requires c κs = search needs
+form-in-requires : tie.Need-form-in-requires
+form-in-requires c κs = search needs
 
 returns-3 : tie.Need-returns-3
 unfolding headFault firstOf littleEndian
@@ -74,7 +76,7 @@ returns-5 : tie.Need-returns-5
 unfolding headFault firstOf littleEndian
 returns-5 c =
     let f = c .before .before .before .before .before .before .before .before .before .before .before .before .args .file .now in
-    rw (long (c .before .before .before .before .before .before .before .before .before .before), named (c .before .before .before .before .before .before .before .before), version-known (c .before .before .before .before .before), working-low (c .before .before), lt-ltb (length f) (headLength (versionIn f)) (rw (c .before .head-length .ensures, c .before .before .before .before .before .before .before .version-in .ensures) at (c .if5 .taken)))
+    rw (long (c .before .before .before .before .before .before .before .before .before .before), named (c .before .before .before .before .before .before .before .before), version-known (c .before .before .before .before .before), working-low (c .before .before), lt-ltb (length f) (stagesAt (formIn f)) (rw (c .before .head-length .ensures, form-is (c .before .before .before .before .before .before .before)) at (c .if5 .taken)))
 
 width-in-requires : tie.Need-width-in-requires
 width-in-requires c κs = search needs
@@ -99,8 +101,7 @@ head-fault-spec =
     returns
     rd-u32-requires
     returns-2
-    version-in-requires
-    is-known-requires
+    form-in-requires
     returns-3
     dim-in-requires
     working-field-requires

@@ -1,6 +1,5 @@
 -- `header::header_in` meets its contract.
 use mathlib.Core.Path.{ap, _∙_}
-use lib.Dec.{eqb}
 use Rattle.index.specs.Read.{littleEndian, headerIn}
 use borrow.Author.Needs.{needs}
 use Rattle.header.proofs.header_in.Statement.{statement}
@@ -27,18 +26,18 @@ rd-u64-requires c κs = search needs
 width-in-requires : tie.Need-width-in-requires
 width-in-requires c κs = search needs
 
-version-in-requires : tie.Need-version-in-requires
-version-in-requires c κs = search needs
+form-in-requires : tie.Need-form-in-requires
+form-in-requires c κs = search needs
 
 returns : tie.Need-returns
 unfolding headerIn
 returns c =
     λ i. record {
       dim = (c .before .before .before .before .before .dim-in .ensures) i;
-      working = (c .before .before .before .before .working-in .ensures) i;
+      «working_dim» = (c .before .before .before .before .working-in .ensures) i;
       seed = (c .before .before .rd-u64 .ensures ∙ ap (littleEndian 8) (c .before .before .before .after .ensures)) i;
-      width = (c .before .width-in .ensures) i;
-      residual = (ap (λ v. eqb v 260) (c .version-in .ensures)) i;
+      bits = (c .before .width-in .ensures) i;
+      residual = (c .form-in .ensures) i .second;
     }
 
 pub header-in-spec : {M : Type 1} → statement M
@@ -52,5 +51,5 @@ header-in-spec =
     after-requires
     rd-u64-requires
     width-in-requires
-    version-in-requires
+    form-in-requires
     returns)

@@ -4,8 +4,8 @@ use borrow.Author.Needs.{needs}
 use Rattle.header.proofs.stages_in.Statement.{statement}
 use Rattle.header.proofs.stages_in.Tie as tie
 
-version-in-requires : tie.Need-version-in-requires
-version-in-requires c κs = search needs
+form-in-requires : tie.Need-form-in-requires
+form-in-requires c κs = search needs
 
 head-length-requires : tie.Need-head-length-requires
 head-length-requires c κs = search needs
@@ -14,8 +14,8 @@ after-requires : tie.Need-after-requires
 after-requires c κs = search needs
 
 returns : tie.Need-returns
-returns c = c .after .ensures ∙ rw (c .before .head-length .ensures, c .before .before .version-in .ensures)
+returns c = c .after .ensures ∙ rw (c .before .head-length .ensures, c .before .before .form-in .ensures)
 
 pub stages-in-spec : {M : Type 1} → statement M
 stages-in-spec =
-    tie.close (tie.spec version-in-requires head-length-requires after-requires returns)
+    tie.close (tie.spec form-in-requires head-length-requires after-requires returns)

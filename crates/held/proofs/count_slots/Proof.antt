@@ -5,7 +5,8 @@ use Prim.Native.Nat.{ℕ, _-_, _≤_}
 use mathlib.Core.Logic.{⊎-elim}
 use native.Mathlib.Omega.{arith}
 use borrow.Author.Needs.{needs}
-use Rattle.held.specs.Held.{slotHas, heldCount}
+use Rattle.slot_keys.specs.Has.{slotHas}
+use Rattle.held.specs.Held.{heldCount}
 use Rattle.held.proofs.Scan.{count-yes, count-no, count-few}
 use Rattle.held.proofs.count_slots.Statement.{statement}
 use Rattle.held.proofs.count_slots.Tie as tie

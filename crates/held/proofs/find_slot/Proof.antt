@@ -6,7 +6,8 @@ use Prim.Native.Nat.{ℕ, _-_, _≤_}
 use native.Mathlib.Omega.{arith}
 use borrow.Author.Needs.{needs}
 use Rattle.lists.specs.Keep.{keep}
-use Rattle.held.specs.Held.{below, slotHolds}
+use Rattle.held.specs.Held.{slotHolds}
+use Rattle.lists.specs.Lists.{below}
 use Rattle.held.proofs.Scan.{none-more, first-is, none-is}
 use Rattle.held.proofs.find_slot.Statement.{statement}
 use Rattle.held.proofs.find_slot.Tie as tie

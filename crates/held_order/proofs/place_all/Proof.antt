@@ -2,7 +2,7 @@
 use Prim.Native.Nat.{_-_}
 use native.Mathlib.Omega.{arith}
 use borrow.Author.Needs.{needs}
-use Rattle.held_order.proofs.Writing.{written-all}
+use Rattle.lists.proofs.Writing.{written-all}
 use Rattle.held_order.proofs.Positions.{Entered, entered-none, entered-more}
 use Rattle.held_order.proofs.place_all.Statement.{statement}
 use Rattle.held_order.proofs.place_all.Tie as tie

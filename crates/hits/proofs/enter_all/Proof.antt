@@ -6,6 +6,7 @@ use denote.Ref.{now}
 use Rattle.lloyd.specs.Tables.{centroidsOf}
 use Rattle.lloyd.proofs.Places.{lent, lent-fits}
 use Rattle.lloyd.proofs.Widths.{centroids-length}
+use Rattle.unit.specs.Brought.{queryOf}
 use Rattle.unit.proofs.Rotatable.{rotatable-of}
 use Rattle.index.specs.State.{headerOf}
 use Rattle.score_slot.proofs.Slot.{query-lent}
@@ -15,22 +16,22 @@ use Rattle.hits.proofs.enter_all.Statement.{statement}
 use Rattle.hits.proofs.enter_all.Tie as tie
 
 levels-requires : tie.Need-levels-requires
-levels-requires c κs = search needs
+levels-requires c κs = tt
 
 centroids-requires : tie.Need-centroids-requires
-centroids-requires c κs = search needs
+centroids-requires c κs = tt
 
 padded-dim-requires : tie.Need-padded-dim-requires
-padded-dim-requires c κs = search needs
+padded-dim-requires c κs = tt
 
 query-floats-requires : tie.Need-query-floats-requires
-query-floats-requires c κs = search needs
+query-floats-requires c κs = tt
 
 slice-aggregate-prepare : tie.Need-slice-aggregate-prepare
 slice-aggregate-prepare c = search needs
 
 prepare-requires : tie.Need-prepare-requires
-prepare-requires c κs = search needs
+prepare-requires c κs = tt
 
 sub-enter-slots : tie.Need-sub-enter-slots
 sub-enter-slots c = search needs
@@ -56,11 +57,14 @@ part-enter-slots-end-2 c =
 enter-slots-requires : tie.Need-enter-slots-requires
 enter-slots-requires c κs = search needs
 
+abbrev entered : tie.After-slice-known4 → tie.After-enter-slots
+entered c = c .before .before .before .before
+
 same-length : tie.Need-same-length
-same-length c = search needs
+same-length c = entered c .enter-slots .kept .1 .1 .1 .1 .1 .1 .1 .1 .1 .0
 
 same-length-2 : tie.Need-same-length-2
-same-length-2 c = search needs
+same-length-2 c = entered c .enter-slots .kept .1 .1 .1 .1 .1 .1 .1 .1 .1 .1 .0
 
 returns : tie.Need-returns
 returns c =
@@ -69,7 +73,7 @@ returns c =
     let places : length (floats .result) ≡ 4096 = omega (arith, floats .ok) in
     let q = now (s .args .query) in
     let entered = c .before .before .before .before .enter-slots in
-    entered-prepared (headerOf (s .args .index)) (now (s .args .codes)) (now (s .args .scales)) (now (s .args .codes2)) (now (s .args .scales2)) q _ _
+    entered-prepared (headerOf (s .args .index)) (now (s .args .codes)) (now (s .args .scales)) (now (s .args .codes2)) (now (s .args .scales2)) (queryOf q) _ _
     (lent (centroidsOf _) _ _ (c .before .before .before .before .before .before .before .before .before .before .before .before .before .before .before .before .centroids .ensures) (c .before .before .before .before .before .before .before .before .before .before .before .before .before .before .before .before .before .levels .ensures ∙ sym (centroids-length _)))
     (query-lent _ _ q (floats .result) _ _ (rw places (s .pre .1)) (c .before .before .before .before .before .before .before .before .before .before .before .before .prepare .ensures) _ (c .before .before .before .before .before .before .before .before .before .before .before .before .before .before .before .padded-dim .ensures))
     _ _ _ _ _ _ _ (entered .ensures)

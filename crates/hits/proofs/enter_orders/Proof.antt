@@ -8,7 +8,7 @@ use lib.Ieee.{Float, nan, isNan}
 use denote.Ref.{now}
 use borrow.Author.Tests.{not-false}
 use Rattle.unit.proofs.Rotatable.{says-no}
-use Rattle.scan.specs.Scan.{marked}
+use Rattle.scan.specs.Scan.{takesPart}
 use Rattle.hits.proofs.Entering.{Begun, begun-none, begun-here, begun-more, enters-like, enters-all, stops}
 use Rattle.hits.proofs.enter_orders.Statement.{statement}
 use Rattle.hits.proofs.enter_orders.Tie as tie
@@ -36,7 +36,7 @@ returns : tie.Need-returns Inv-loop μ-loop
 returns c = let s = c .before .before .before .before .before .before .before .before .before .before .before .before .before in
     let at = c .before .before .before .before .before .before .before .before .before .loop in
     stops (λ j. getD (now (s .args .all)) j nan) (now (s .args .marks)) (s .args .n) _ _ _ _ (at .i) (c .before .before .before .before .before .before .before .before .loop-test .taken)
-    (ap (λ (x : Float). marked (now (s .args .marks)) (at .i) && isNan x) (sym (begun-here _ _ (at .inv .3))) ∙ not-false _ (says-no (c .before .before .before .before .before .enter-slot .ensures .sound) (c .if1 .taken)))
+    (ap (λ (x : Float). takesPart (now (s .args .marks)) (at .i) && isNan x) (sym (begun-here _ _ (at .inv .3))) ∙ not-false _ (says-no (c .before .before .before .before .before .enter-slot .ensures .sound) (c .if1 .taken)))
 
 add-i : tie.Need-add-i Inv-loop μ-loop
 add-i c = omega arith

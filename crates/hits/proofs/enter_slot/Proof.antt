@@ -6,13 +6,13 @@ use lib.Seq.{set-getD}
 use lib.Ieee.{nan, ofBits, isNan}
 use denote.Ref.{now}
 use Rattle.unit.proofs.Rotatable.{says-no, says-yes}
-use Rattle.unit.proofs.FloatTests.{is-nan, no-nan}
+use Rattle.vectors.proofs.FloatTests.{is-nan, no-nan}
 use Rattle.hits.proofs.Entering.{enters-not, enters-nan, enters-score}
 use Rattle.hits.proofs.enter_slot.Statement.{statement}
 use Rattle.hits.proofs.enter_slot.Tie as tie
 
 is-marked-requires : tie.Need-is-marked-requires
-is-marked-requires c κs = search needs
+is-marked-requires c κs = tt
 
 mul-all : tie.Need-mul-all
 mul-all c = search needs
@@ -51,7 +51,7 @@ returns-2 c = let s = c .before .before .before .before .before .before .before 
     enters-nan (λ i. getD (now (a .all)) i nan) (now (a .marks)) (a .slot) (now (a .all)) _ (now (a .orders)) _ (says-yes (c .before .before .before .is-marked .ensures) (c .before .before .if1 .left)) (ap isNan (is-nan (getD (now (a .all)) (a .slot) nan) (c .if2 .taken)))
 
 order-number-requires : tie.Need-order-number-requires
-order-number-requires c κs = search needs
+order-number-requires c κs = tt
 
 mul-orders-2 : tie.Need-mul-orders-2
 mul-orders-2 c = search needs

@@ -1,4 +1,5 @@
 -- `hits::enter_slots` meets its contract.
+use mathlib.Core.Path.{_∙_}
 use borrow.Author.Needs.{needs}
 use denote.Ref.{now}
 use Rattle.index.specs.State.{headerOf}
@@ -14,10 +15,10 @@ enter-orders-requires : tie.Need-enter-orders-requires
 enter-orders-requires c κs = search needs
 
 same-length : tie.Need-same-length
-same-length c = search needs
+same-length c = c .before .before .before .before .enter-orders .kept .1 .1 .0 ∙ c .before .before .before .before .before .before .before .before .before .score-slots .kept .1 .1 .1 .1 .1 .1 .1 .1 .1 .0
 
 same-length-2 : tie.Need-same-length-2
-same-length-2 c = search needs
+same-length-2 c = c .before .before .before .before .enter-orders .kept .1 .1 .1 .0
 
 returns : tie.Need-returns
 returns c = let s = c .before .before .before .before .before .before .before .before .before .before .before .before .before .before .before .before .before .before .before .before in

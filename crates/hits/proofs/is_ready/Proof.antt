@@ -1,7 +1,6 @@
 -- `hits::is_ready` meets its contract.
 use borrow.Author.Tests.{le-leb, lt-leb}
 use Rattle.hits.specs.Hits.{ready}
-use borrow.Author.Needs.{needs}
 use Rattle.hits.proofs.is_ready.Statement.{statement}
 use Rattle.hits.proofs.is_ready.Tie as tie
 
@@ -18,7 +17,7 @@ unfolding ready
 returns-3 c = simp (le-leb _ _ (c .before .before .before .before .if1 .left), le-leb _ _ (c .before .before .if2 .left), lt-leb _ _ (c .if3 .taken))
 
 is-rotatable-requires : tie.Need-is-rotatable-requires
-is-rotatable-requires c κs = search needs
+is-rotatable-requires c κs = tt
 
 returns-4 : tie.Need-returns-4
 unfolding ready

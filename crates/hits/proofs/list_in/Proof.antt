@@ -9,16 +9,17 @@ use Rattle.index.specs.State.{headerOf}
 use Rattle.hits.specs.Hits.{scoreAt}
 use lib.ListN.{take}
 use borrow.Author.Tests.{not-true, not-false}
+use Rattle.unit.specs.Brought.{queryOf}
 use Rattle.unit.proofs.Rotatable.{says-no, says-yes}
 use Rattle.hits.specs.Steps.{scoreEntry, orderEntry}
 use Rattle.hits.proofs.Query.{scores-fit}
-use Rattle.hits.proofs.Writing.{front-tab}
+use Rattle.lists.proofs.Front.{part-tab}
 use Rattle.hits.proofs.Answer.{ready-few, ready-width, ready-rotatable, some-nan, all-sound}
 use Rattle.hits.proofs.list_in.Statement.{statement}
 use Rattle.hits.proofs.list_in.Tie as tie
 
 abbrev scores : tie.Start → ℕ → Float
-scores s = scoreAt (headerOf (s .args .index)) (now (s .args .codes)) (now (s .args .scales)) (now (s .args .codes2)) (now (s .args .scales2)) (now (s .args .query))
+scores s = scoreAt (headerOf (s .args .index)) (now (s .args .codes)) (now (s .args .scales)) (now (s .args .codes2)) (now (s .args .scales2)) (queryOf (now (s .args .query)))
 
 enter-all-requires : tie.Need-enter-all-requires
 enter-all-requires c κs = let s = c .before .before .before .before .before .before .before .before .before .before .before .before in
@@ -26,10 +27,10 @@ enter-all-requires c κs = let s = c .before .before .before .before .before .be
     ((w .0, w .1, s .pre .1 .0, s .pre .1 .1), ready-rotatable _ _ _ _ (s .pre .0))
 
 same-length : tie.Need-same-length
-same-length c = search needs
+same-length c = c .before .before .before .before .before .enter-all .kept .1 .1 .1 .1 .1 .1 .1 .0
 
 same-length-2 : tie.Need-same-length-2
-same-length-2 c = search needs
+same-length-2 c = c .before .before .before .before .before .enter-all .kept .1 .1 .1 .1 .1 .1 .1 .1 .0
 
 returns : tie.Need-returns
 returns c = let s = c .before .before .before .before .before .before .before .before .before .before .before .before .before .before .before .before .before .before in
@@ -56,17 +57,23 @@ part-write-hits-end-2 c = omega (arith, c .before .before .before .before .befor
 write-hits-requires : tie.Need-write-hits-requires
 write-hits-requires c κs = search needs
 
+abbrev written : tie.After-slice-known8 → tie.After-write-hits
+written c = c .before .before .before .before
+
 same-length-3 : tie.Need-same-length-3
-same-length-3 c = search needs
+same-length-3 c = written c .write-hits .kept .1 .1 .1 .0
 
 same-length-4 : tie.Need-same-length-4
-same-length-4 c = search needs
+same-length-4 c = written c .write-hits .kept .1 .1 .1 .1 .0
+
+abbrev entered : tie.After-slice-known8 → tie.After-enter-all
+entered c = c .before .before .before .before .before .before .before .before .before .before .before .before .before .before .before .before
 
 same-length-5 : tie.Need-same-length-5
-same-length-5 c = search needs
+same-length-5 c = entered c .enter-all .kept .1 .1 .1 .1 .1 .1 .1 .0
 
 same-length-6 : tie.Need-same-length-6
-same-length-6 c = search needs
+same-length-6 c = entered c .enter-all .kept .1 .1 .1 .1 .1 .1 .1 .1 .0
 
 returns-2 : tie.Need-returns-2
 returns-2 c = let s = c .before .before .before .before .before .before .before .before .before .before .before .before .before .before .before .before .before .before .before .before .before .before .before .before .before .before .before .before .before in
@@ -76,10 +83,10 @@ returns-2 c = let s = c .before .before .before .before .before .before .before 
     let left = c .before .before .before .before .before .before .before .before .before .before .before .if1 .left in
     let sound = not-false (entered .result) left in
     all-sound (scores s) marks n (s .args .k) (now (s .args .slots)) (now (s .args .scores))
-    (scores-fit (headerOf (s .args .index)) (now (s .args .codes)) (now (s .args .scales)) (now (s .args .codes2)) (now (s .args .scales2)) (now (s .args .query)))
+    (scores-fit (headerOf (s .args .index)) (now (s .args .codes)) (now (s .args .scales)) (now (s .args .codes2)) (now (s .args .scales2)) (queryOf (now (s .args .query))))
     (ready-few _ _ _ _ (s .pre .0)) (not-true _ (says-yes (entered .ensures .sound) left)) _ _
-    (ap (take (n - 0)) (entered .ensures .scores-in sound) ∙ front-tab (scoreEntry (scores s) marks) n _)
-    (ap (take (n - 0)) (entered .ensures .orders-in sound) ∙ front-tab (orderEntry (scores s) marks) n _)
+    (ap (take (n - 0)) (entered .ensures .scores-in sound) ∙ part-tab (scoreEntry (scores s) marks) n _)
+    (ap (take (n - 0)) (entered .ensures .orders-in sound) ∙ part-tab (orderEntry (scores s) marks) n _)
     _ _ _ (c .before .before .before .before .write-hits .ensures)
 
 pub list-in-spec : {M : Type 1} → statement M

@@ -1,5 +1,4 @@
 -- `hits::score_slots` meets its contract.
-use borrow.Author.Needs.{needs}
 use native.Mathlib.Omega.{arith}
 use mathlib.Core.Path.{_≡_, ap, _∙_}
 use Prim.Native.Nat.{ℕ}
@@ -19,19 +18,19 @@ size-is s p size e f =
     f ∙ at-width _ (record { some = omega (arith, s .pre .0); most = omega (arith, s .pre .1) }) ∙ ap (bytesPerVector (s .args .index .bits)) e
 
 padded-dim-requires : tie.Need-padded-dim-requires
-padded-dim-requires c κs = search needs
+padded-dim-requires c κs = tt
 
 bytes-per-vector-requires : tie.Need-bytes-per-vector-requires
-bytes-per-vector-requires c κs = search needs
+bytes-per-vector-requires c κs = tt
 
 stage-scores-requires : tie.Need-stage-scores-requires
-stage-scores-requires c κs = search needs
+stage-scores-requires c κs = tt
 
 stage-scores-requires-2 : tie.Need-stage-scores-requires-2
-stage-scores-requires-2 c κs = search needs
+stage-scores-requires-2 c κs = tt
 
 same-length : tie.Need-same-length
-same-length c = search needs
+same-length c = c .before .before .stage-scores2 .kept .1 .1 .1 .1 .1 .1 .1 .1 .1 .0 ∙ c .before .before .before .before .before .before .before .stage-scores .kept .1 .1 .1 .1 .1 .1 .1 .1 .1 .0
 
 returns : tie.Need-returns
 returns c = let s = c .before .before .before .before .before .before .before .before .before .before .before .before .before .before .before .before .before .before .before in
@@ -40,7 +39,7 @@ returns c = let s = c .before .before .before .before .before .before .before .b
     (size-is s _ _ (c .before .before .before .before .before .before .before .before .before .before .padded-dim .ensures) (c .before .before .before .before .before .before .before .before .before .bytes-per-vector .ensures)) (now (a .marks)) (a .n) (now (a .all)) _ (s .pre .2) (c .before .before .before .before .before .before .before .stage-scores .ensures) _ (c .before .before .before .before .if1 .taken) (c .before .before .stage-scores2 .ensures)
 
 same-length-2 : tie.Need-same-length-2
-same-length-2 c = search needs
+same-length-2 c = c .before .before .before .stage-scores .kept .1 .1 .1 .1 .1 .1 .1 .1 .1 .0
 
 returns-2 : tie.Need-returns-2
 returns-2 c = let s = c .before .before .before .before .before .before .before .before .before .before .before .before .before .before .before in

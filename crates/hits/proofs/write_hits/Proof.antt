@@ -7,7 +7,7 @@ use Rattle.hits.proofs.write_hits.Statement.{statement}
 use Rattle.hits.proofs.write_hits.Tie as tie
 
 fewer-requires : tie.Need-fewer-requires
-fewer-requires c κs = search needs
+fewer-requires c κs = tt
 
 sub-choose : tie.Need-sub-choose
 sub-choose c = search needs
@@ -19,7 +19,7 @@ part-choose-end : tie.Need-part-choose-end
 part-choose-end c = search needs
 
 choose-requires : tie.Need-choose-requires
-choose-requires c κs = search needs
+choose-requires c κs = tt
 
 sub-write-scores : tie.Need-sub-write-scores
 sub-write-scores c = search needs
@@ -44,7 +44,7 @@ same-length : tie.Need-same-length
 same-length c = search needs
 
 same-length-2 : tie.Need-same-length-2
-same-length-2 c = search needs
+same-length-2 c = c .before .before .write-scores .kept .1 .1 .0
 
 returns : tie.Need-returns
 returns c =

@@ -3,8 +3,9 @@ use Prim.Native.Nat.{_-_, _≤_}
 use native.Mathlib.Omega.{arith}
 use borrow.Author.Needs.{needs}
 use Rattle.lists.specs.Keep.{count}
-use Rattle.held.specs.Held.{below}
-use Rattle.layout.specs.Counts.{liveAt, entryAt, countsOf}
+use Rattle.lists.specs.Lists.{below}
+use Rattle.marks.specs.Live.{liveAt}
+use Rattle.layout.specs.Counts.{entryAt, countsOf}
 use Rattle.layout.proofs.Numbers.{bit-low}
 use Rattle.layout.proofs.Counting.{count-one, count-few}
 use Rattle.layout.proofs.count_slots.Statement.{statement}

@@ -1,7 +1,7 @@
 -- `layout::end_at` meets its contract.
 use native.Mathlib.Omega.{arith}
 use borrow.Author.Needs.{needs}
-use Rattle.layout.specs.Layout.{endAt}
+use Rattle.index.specs.Form.{endAt}
 use Rattle.layout.proofs.Numbers.{few-before}
 use Rattle.layout.proofs.end_at.Statement.{statement}
 use Rattle.layout.proofs.end_at.Tie as tie

@@ -13,20 +13,23 @@ fits-requires c κs = search needs
 count-slots-requires : tie.Need-count-slots-requires
 count-slots-requires c κs = search needs
 
+version-of-requires : tie.Need-version-of-requires
+version-of-requires c κs = search needs
+
 block-size-requires : tie.Need-block-size-requires
 block-size-requires c κs = search needs
 
 length-of-requires : tie.Need-length-of-requires
 length-of-requires c κs =
-    let e = sym (c .before .before .before .fits2 .ensures) ∙ c .before .before .if1 .taken in
-    let few = low-counts _ _ e _ (c .before .count-slots .ensures) in
+    let e = sym (c .before .before .before .before .fits2 .ensures) ∙ c .before .before .before .if1 .taken in
+    let few = low-counts _ _ e _ (c .before .before .count-slots .ensures) in
     (rw (whole-block _ _ e _ (c .block-size .ensures)) (low-block _ _ e), few .0, few .1)
 
 returns : tie.Need-returns
 returns c =
-    let e = sym (c .before .before .before .before .fits2 .ensures) ∙ c .before .before .before .if1 .taken in
+    let e = sym (c .before .before .before .before .before .fits2 .ensures) ∙ c .before .before .before .before .if1 .taken in
     length-call _ _ e _
-    (length-is _ _ e _ _ _ (c .before .before .count-slots .ensures) (whole-block _ _ e _ (c .before .block-size .ensures)) (c .length-of .ensures))
+    (length-is _ _ e _ _ _ _ (c .before .before .before .count-slots .ensures) (c .before .before .version-of .ensures) (whole-block _ _ e _ (c .before .block-size .ensures)) (c .length-of .ensures))
 
 returns-2 : tie.Need-returns-2
 returns-2 c = sym (call-misfit _ _ fileLength (sym (c .before .fits2 .ensures) ∙ c .if1 .left))
@@ -37,6 +40,7 @@ file-length-spec =
     (tie.spec
     fits-requires
     count-slots-requires
+    version-of-requires
     block-size-requires
     length-of-requires
     returns

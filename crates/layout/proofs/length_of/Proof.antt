@@ -4,9 +4,6 @@ use borrow.Author.Needs.{needs}
 use Rattle.layout.proofs.length_of.Statement.{statement}
 use Rattle.layout.proofs.length_of.Tie as tie
 
-version-of-requires : tie.Need-version-of-requires
-version-of-requires c κs = search needs
-
 form-of-requires : tie.Need-form-of-requires
 form-of-requires c κs = search needs
 
@@ -23,13 +20,12 @@ end-at-requires : tie.Need-end-at-requires
 end-at-requires c κs = search needs
 
 returns : tie.Need-returns
-returns c = c .end-at .ensures ∙ rw (c .before .before .before .form-of .ensures, c .before .before .before .before .version-of .ensures)
+returns c = c .end-at .ensures ∙ rw (c .before .before .before .form-of .ensures)
 
 pub length-of-spec : {M : Type 1} → statement M
 length-of-spec =
     tie.close
     (tie.spec
-    version-of-requires
     form-of-requires
     cast-end-at
     cast-end-at-2

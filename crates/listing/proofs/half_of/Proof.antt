@@ -4,7 +4,9 @@ use borrow.Author.Needs.{needs}
 use borrow.Author.Tests.{eq-eqb, ne-eqb}
 use lib.ListN.{drop}
 use Rattle.half.specs.Half.{narrowed}
-use Rattle.index.specs.Read.{littleEndian, versionIn}
+use Rattle.index.specs.declared.Form.{Form}
+use Rattle.index.specs.Form.{formOf}
+use Rattle.index.specs.Read.{littleEndian, formIn}
 use Rattle.listing.specs.Listing.{halfIn}
 use Rattle.listing.proofs.half_of.Statement.{statement}
 use Rattle.listing.proofs.half_of.Tie as tie
@@ -14,6 +16,9 @@ stages-in-requires c κs = search needs
 
 version-in-requires : tie.Need-version-in-requires
 version-in-requires c κs = search needs
+
+form-of-requires : tie.Need-form-of-requires
+form-of-requires c κs = search needs
 
 mul-after : tie.Need-mul-after
 mul-after c = search needs
@@ -30,10 +35,11 @@ f32-to-f16-bits-requires c κs = search needs
 returns : tie.Need-returns
 unfolding halfIn
 returns c =
-    let args = c .before .before .before .before .before .before .before .args in
+    let args = c .before .before .before .before .before .before .before .before .before .args in
     let file = args .file .now in
-    let part = c .before .before .after .ensures ∙ ap (drop (args .slot * 4)) (c .before .before .before .before .before .stages-in .ensures) in
-    rw (eq-eqb (versionIn file) 1 (sym (c .before .before .before .before .version-in .ensures) ∙ c .before .before .before .if1 .taken))
+    let part = c .before .before .after .ensures ∙ ap (drop (args .slot * 4)) (c .before .before .before .before .before .before .before .stages-in .ensures) in
+    let form = c .before .before .before .before .before .form-of .ensures ∙ ap formOf (c .before .before .before .before .before .before .version-in .ensures) in
+    rw (eq-eqb (formIn file .scale) 4 (sym (ap (λ (f : Form). f .scale) form) ∙ c .before .before .before .if1 .taken))
     (c .f32-to-f16-bits .ensures .equals ∙ ap narrowed (c .before .rd-u32 .ensures ∙ ap (littleEndian 4) part))
 
 mul-after-2 : tie.Need-mul-after-2
@@ -48,10 +54,11 @@ rd-u16-requires c κs = search needs
 returns-2 : tie.Need-returns-2
 unfolding halfIn
 returns-2 c =
-    let args = c .before .before .before .before .before .before .args in
+    let args = c .before .before .before .before .before .before .before .before .args in
     let file = args .file .now in
-    let part = c .before .after2 .ensures ∙ ap (drop (args .slot * 2)) (c .before .before .before .before .stages-in .ensures) in
-    rw (ne-eqb (versionIn file) 1 (λ e. c .before .before .if1 .left (c .before .before .before .version-in .ensures ∙ e)))
+    let part = c .before .after2 .ensures ∙ ap (drop (args .slot * 2)) (c .before .before .before .before .before .before .stages-in .ensures) in
+    let form = c .before .before .before .before .form-of .ensures ∙ ap formOf (c .before .before .before .before .before .version-in .ensures) in
+    rw (ne-eqb (formIn file .scale) 4 (λ e. c .before .before .if1 .left (ap (λ (f : Form). f .scale) form ∙ e)))
     (c .rd-u16 .ensures ∙ ap (littleEndian 2) part)
 
 pub half-of-spec : {M : Type 1} → statement M
@@ -60,6 +67,7 @@ half-of-spec =
     (tie.spec
     stages-in-requires
     version-in-requires
+    form-of-requires
     mul-after
     after-requires
     rd-u32-requires

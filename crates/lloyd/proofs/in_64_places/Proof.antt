@@ -6,7 +6,7 @@ use borrow.Author.Needs.{needs}
 use lib.ListN.{length, getD}
 use lib.Ieee.{nan}
 use denote.Ref.{now}
-use Rattle.lloyd.specs.Tables.{zeros64, padded}
+use Rattle.lloyd.specs.Tables.{zeros64, inPlaces}
 use Rattle.lists.proofs.Laws.{begun, begun-next, begun-all}
 use Rattle.lloyd.proofs.in_64_places.Statement.{statement}
 use Rattle.lloyd.proofs.in_64_places.Tie as tie
@@ -51,7 +51,7 @@ loop-again c =
     )
 
 returns : tie.Need-returns Inv-loop μ-loop
-unfolding padded
+unfolding inPlaces
 returns c =
     let at = c .before .loop in
     at .inv .1 ∙ begun-all (now (c .before .before .before .before .args .table)) zeros64 (at .i) (omega arith) (omega arith)

@@ -1,9 +1,8 @@
 -- `make::make` meets its contract.
-use mathlib.Core.Path.{sym, ap, _∙_}
+use mathlib.Core.Path.{sym, _∙_}
 use borrow.Author.Needs.{needs}
 use Rattle.unit.proofs.Rotatable.{says-no, says-yes}
-use Rattle.index.specs.declared.Made.the-variants as Made
-use Rattle.make.proofs.Making.{make-4, make-13, make-accepted, fresh-record, fresh-room}
+use Rattle.make.proofs.Making.{make-4, make-13, make-accepted, fresh-made, fresh-room}
 use Rattle.make.proofs.make.Statement.{statement}
 use Rattle.make.proofs.make.Tie as tie
 
@@ -27,7 +26,7 @@ returns-2 c =
 returns-3 : tie.Need-returns-3
 returns-3 c =
     let room = fresh-room _ _ _ _ _ (c .before .before .before .before .default-bits .ensures) _ _ (c .before .before .before .capacity .ensures) in
-    ap Made.Index (fresh-record _ _ _ _ _ (c .before .before .before .before .default-bits .ensures))
+    fresh-made _ _ _ _ _ (c .before .before .before .before .default-bits .ensures) _
     ∙ sym (make-accepted _ _ (says-yes (c .before .before .dims-fit .ensures) (c .before .if1 .left)) (λ z. c .if2 .left (room ∙ z)))
 
 pub make-spec : {M : Type 1} → statement M

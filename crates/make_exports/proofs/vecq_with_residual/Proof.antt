@@ -13,7 +13,7 @@ same-length : tie.Need-same-length
 same-length c = c .before .before .put-made .kept .1 .0
 
 returns : tie.Need-returns
-returns c = make-done _ _ _ (c .before .before .before .before .with-residual .ensures) _ (c .before .before .put-made .ensures)
+returns c = make-done _ _ _ (c .before .before .before .before .with-residual .ensures) _ _ _ (c .before .before .put-made .ensures)
 
 pub vecq-with-residual-spec : {M : Type 1} → statement M
 vecq-with-residual-spec =

@@ -5,7 +5,7 @@ use native.Mathlib.Omega.{arith}
 use lib.ListN.{length}
 use Rattle.lists.specs.Lists.{tab}
 use Rattle.lists.proofs.Laws.{length-tab, over-all}
-use Rattle.held_order.proofs.Writing.{Written, written-none, written-more, written-all}
+use Rattle.lists.proofs.Writing.{Written, written-none, written-more, written-all}
 use Rattle.nearest.proofs.clear.Statement.{statement}
 use Rattle.nearest.proofs.clear.Tie as tie
 

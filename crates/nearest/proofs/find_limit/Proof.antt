@@ -9,7 +9,7 @@ use denote.Ref.{now}
 use borrow.Author.Needs.{needs}
 use Rattle.lists.specs.Lists.{tab}
 use Rattle.lists.proofs.Keep.{each-weaken}
-use Rattle.distances.specs.Distances.{past}
+use Rattle.nearest.specs.Distances.{past}
 use Rattle.nearest.specs.Limit.{level}
 use Rattle.nearest.proofs.Counting.{level-few, counted-at, Nearer, nearer-none, nearer-few, nearer-more, limit-reached, limit-past}
 use Rattle.nearest.proofs.find_limit.Statement.{statement}

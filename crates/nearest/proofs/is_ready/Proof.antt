@@ -1,20 +1,28 @@
 -- `nearest::is_ready` meets its contract.
-use borrow.Author.Tests.{lt-leb, le-leb}
-use Rattle.nearest.specs.Nearest.{ready}
+use borrow.Author.Tests.{lt-leb, le-leb, ne-eqb}
+use Rattle.nearest.specs.Nearest.{cascadable}
 use borrow.Author.Needs.{needs}
 use Rattle.nearest.proofs.is_ready.Statement.{statement}
 use Rattle.nearest.proofs.is_ready.Tie as tie
 
 returns : tie.Need-returns
-unfolding ready
+unfolding cascadable
 returns c = rw (lt-leb _ _ (c .if1 .taken))
 
-is-measurable-requires : tie.Need-is-measurable-requires
-is-measurable-requires c κs = search needs
-
 returns-2 : tie.Need-returns-2
-unfolding ready
-returns-2 c = rw (le-leb _ _ (c .before .if1 .left)) (c .is-measurable .ensures)
+unfolding cascadable
+returns-2 c = rw (le-leb _ _ (c .before .if1 .left), lt-leb _ _ (c .if2 .taken))
+
+returns-3 : tie.Need-returns-3
+unfolding cascadable
+returns-3 c = rw (le-leb _ _ (c .before .before .if1 .left), le-leb _ _ (c .before .if2 .left), ne-eqb _ 4 (c .if3 .taken))
+
+is-rotatable-requires : tie.Need-is-rotatable-requires
+is-rotatable-requires c κs = search needs
+
+returns-4 : tie.Need-returns-4
+unfolding cascadable
+returns-4 c = rw (le-leb _ _ (c .before .before .before .if1 .left), le-leb _ _ (c .before .before .if2 .left), c .before .if3 .left) (c .is-rotatable .ensures)
 
 pub is-ready-spec : {M : Type 1} → statement M
-is-ready-spec = tie.close (tie.spec returns is-measurable-requires returns-2)
+is-ready-spec = tie.close (tie.spec returns returns-2 returns-3 is-rotatable-requires returns-4)

@@ -5,7 +5,7 @@ use native.Mathlib.Omega.{arith}
 use lib.Dec.{eqb}
 use lib.ListN.{length, getD}
 use borrow.Author.Needs.{needs}
-use Rattle.held_order.proofs.Writing.{written-none, written-all}
+use Rattle.lists.proofs.Writing.{written-none, written-all}
 use Rattle.nearest.proofs.Counting.{byte-low, level-none, level-few, Marking, marking-more}
 use Rattle.nearest.proofs.mark.Statement.{statement}
 use Rattle.nearest.proofs.mark.Tie as tie

@@ -7,8 +7,9 @@ use native.Mathlib.Omega.{arith}
 use lib.ListN.{length}
 use denote.Ref.{now}
 use Rattle.lists.specs.Lists.{over}
-use Rattle.nearest.specs.Nearest.{ready}
-use Rattle.nearest.proofs.Lent.{Lent, lent}
+use Rattle.index.specs.Step.{queryOf}
+use Rattle.nearest.specs.Nearest.{cascadable}
+use Rattle.nearest.proofs.Lent.{ready, Lent, lent}
 use borrow.Author.Needs.{needs}
 use Rattle.nearest.proofs.mark_nearest.Statement.{statement}
 use Rattle.nearest.proofs.mark_nearest.Tie as tie
@@ -17,12 +18,12 @@ abbrev start : tie.After-live-distances → tie.Start
 start m = m .before .before .before .before .before .before .before .before .before
 
 is-ready : (m : tie.After-live-distances) →
-    ready (start m .args .index .n) (length (now (start m .args .marks))) (start m .args .index .bits) (start m .args .index .«working_dim»)
+    cascadable (start m .args .index .n) (length (now (start m .args .marks))) (start m .args .index .bits) (start m .args .index .«working_dim»)
     (length (now (start m .args .query))) ≡ true
 is-ready m = sym (m .before .before .before .before .is-ready .ensures) ∙ m .before .before .before .if1 .taken
 
 lent-at : (m : tie.After-live-distances) →
-    Lent (start m .args .index) (now (start m .args .codes)) (now (start m .args .alive)) (now (start m .args .query)) (length (now (start m .args .marks)))
+    Lent (start m .args .index) (now (start m .args .codes)) (now (start m .args .alive)) (queryOf (now (start m .args .query))) (length (now (start m .args .marks)))
     (m .live-distances .last .1 .1 .1 .1 .0)
 lent-at m =
     let places = m .before .before .places in
@@ -38,7 +39,10 @@ slice-aggregate-live-distances : tie.Need-slice-aggregate-live-distances
 slice-aggregate-live-distances c = search needs
 
 live-distances-requires : tie.Need-live-distances-requires
-live-distances-requires c κs = search needs
+live-distances-requires c κs =
+    let places = c .before .places in
+    let m = ready _ _ _ _ _ (sym (c .before .before .before .is-ready .ensures) ∙ c .before .before .if1 .taken) in
+    (omega (arith, m .few, places .ok), m .four, m .query)
 
 sub-find-limit : tie.Need-sub-find-limit
 sub-find-limit c = search needs

@@ -9,13 +9,13 @@ use Rattle.place.proofs.encode_by_width.Statement.{statement}
 use Rattle.place.proofs.encode_by_width.Tie as tie
 
 levels-requires : tie.Need-levels-requires
-levels-requires c κs = search needs
+levels-requires c κs = tt
 
 boundaries-requires : tie.Need-boundaries-requires
-boundaries-requires c κs = search needs
+boundaries-requires c κs = tt
 
 centroids-requires : tie.Need-centroids-requires
-centroids-requires c κs = search needs
+centroids-requires c κs = tt
 
 sub-encode : tie.Need-sub-encode
 sub-encode c = search needs
@@ -39,13 +39,16 @@ part-encode-end-2 : tie.Need-part-encode-end-2
 part-encode-end-2 c = lent-fits (centroidsOf _) _ _ (c .before .before .before .centroids .ensures) (c .before .before .before .before .before .levels .ensures ∙ sym (centroids-length _))
 
 encode-requires : tie.Need-encode-requires
-encode-requires c κs = search needs
+encode-requires c κs = tt
+
+abbrev encoded : tie.After-slice-known4 → tie.After-encode
+encoded c = c .before .before .before .before
 
 same-length : tie.Need-same-length
-same-length c = search needs
+same-length c = encoded c .encode .kept .1 .1 .1 .1 .1 .0
 
 same-length-2 : tie.Need-same-length-2
-same-length-2 c = search needs
+same-length-2 c = encoded c .encode .kept .1 .1 .1 .1 .1 .1 .0
 
 returns : tie.Need-returns
 returns c = c .before .before .before .before .encode .ensures ∙ by-tables _ _ (c .before .before .before .before .before .before .before .before .before .before .before .before .before .levels .ensures) _ _ (c .before .before .before .before .before .before .before .before .before .before .before .before .boundaries .ensures) (c .before .before .before .before .before .before .before .before .before .before .before .centroids .ensures) _ _ _ _

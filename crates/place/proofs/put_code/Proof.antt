@@ -6,6 +6,7 @@ use mathlib.Core.Bool.{true}
 use lib.ListN.{length}
 use denote.Ref.{now}
 use Rattle.encode.specs.Header.{blockSize}
+use Rattle.index.specs.Step.{itemOf}
 use Rattle.place.proofs.Codes.{some-levels, size-is, place-end, place-end2, put-residual, put-plain}
 use borrow.Author.Needs.{needs}
 use Rattle.place.proofs.put_code.Statement.{statement}
@@ -15,16 +16,16 @@ size : (c : tie.After-bytes-per-vector) → c .bytes-per-vector .result ≡ bloc
 size c = size-is (c .before .before .before .before .before .before .before .args .header) (c .before .before .before .before .before .before .before .pre .header) (c .bytes-per-vector .result) (rw (c .before .padded-dim .ensures) at (c .bytes-per-vector .ensures))
 
 end : (s : tie.Start) (b : ℕ) → b ≡ blockSize (s .args .header) → s .args .slot * b + b ≤ length (now (s .args .codes))
-end s = place-end (s .args .header) (now (s .args .codes)) (now (s .args .scales)) (now (s .args .codes2)) (now (s .args .scales2)) (s .args .slot) (now (s .args .v)) (s .pre)
+end s = place-end (s .args .header) (now (s .args .codes)) (now (s .args .scales)) (now (s .args .codes2)) (now (s .args .scales2)) (s .args .slot) (itemOf (now (s .args .v))) (s .pre)
 
 end2 : (s : tie.Start) (b : ℕ) → b ≡ blockSize (s .args .header) → s .args .header .residual ≡ true → s .args .slot * b + b ≤ length (now (s .args .codes2))
-end2 s = place-end2 (s .args .header) (now (s .args .codes)) (now (s .args .scales)) (now (s .args .codes2)) (now (s .args .scales2)) (s .args .slot) (now (s .args .v)) (s .pre)
+end2 s = place-end2 (s .args .header) (now (s .args .codes)) (now (s .args .scales)) (now (s .args .codes2)) (now (s .args .scales2)) (s .args .slot) (itemOf (now (s .args .v))) (s .pre)
 
 padded-dim-requires : tie.Need-padded-dim-requires
-padded-dim-requires c κs = search needs
+padded-dim-requires c κs = tt
 
 bytes-per-vector-requires : tie.Need-bytes-per-vector-requires
-bytes-per-vector-requires c κs = search needs
+bytes-per-vector-requires c κs = tt
 
 mul-from : tie.Need-mul-from
 mul-from c = omega (arith, end (c .before .before .before .before .before .before .before) (c .bytes-per-vector .result) (size c))
@@ -81,7 +82,7 @@ returns : tie.Need-returns
 returns c =
     let s = c .before .before .before .before .before .before .before .before .before .before .before .before .before .before .before in
     let e = c .before .before .before .before .encode-by-width in
-    put-residual (s .args .header) (now (s .args .codes)) (now (s .args .scales)) (now (s .args .codes2)) (now (s .args .scales2)) (s .args .slot) (now (s .args .v)) (s .pre)
+    put-residual (s .args .header) (now (s .args .codes)) (now (s .args .scales)) (now (s .args .codes2)) (now (s .args .scales2)) (s .args .slot) (itemOf (now (s .args .v))) (s .pre)
     (s .args .fresh) (e .result) (e .last .1 .1 .1 .0) (e .last .1 .1 .1 .1 .0) (c .before .before .before .before .before .before .before .before .bytes-per-vector .result) (size (c .before .before .before .before .before .before .before .before)) (c .before .before .before .before .before .before .before .if1 .taken) (e .ensures)
 
 sub-encode-by-width-3 : tie.Need-sub-encode-by-width-3
@@ -124,7 +125,7 @@ returns-2 : tie.Need-returns-2
 returns-2 c =
     let s = c .before .before .before .before .before .before .before .before .before .before .before .before .before .before .before in
     let e = c .before .before .before .before .encode-by-width2 in
-    put-plain (s .args .header) (now (s .args .codes)) (now (s .args .scales)) (now (s .args .codes2)) (now (s .args .scales2)) (s .args .slot) (now (s .args .v)) (s .pre)
+    put-plain (s .args .header) (now (s .args .codes)) (now (s .args .scales)) (now (s .args .codes2)) (now (s .args .scales2)) (s .args .slot) (itemOf (now (s .args .v))) (s .pre)
     (s .args .fresh) (e .result) (e .last .1 .1 .1 .0) (e .last .1 .1 .1 .1 .0) (c .before .before .before .before .before .before .before .before .bytes-per-vector .result) (size (c .before .before .before .before .before .before .before .before)) (c .before .before .before .before .before .before .before .if1 .left) (e .ensures)
 
 pub put-code-spec : {M : Type 1} → statement M

@@ -17,7 +17,7 @@ slice-write-keyed : tie.Need-slice-write-keyed
 slice-write-keyed c = search needs
 
 held-if-keyed-requires : tie.Need-held-if-keyed-requires
-held-if-keyed-requires c κs = search needs
+held-if-keyed-requires c κs = tt
 
 mul-held : tie.Need-mul-held
 mul-held c = search needs
@@ -26,7 +26,7 @@ slice-write-held : tie.Need-slice-write-held
 slice-write-held c = search needs
 
 set-live-mark-requires : tie.Need-set-live-mark-requires
-set-live-mark-requires c κs = search needs
+set-live-mark-requires c κs = tt
 
 same-length : tie.Need-same-length
 same-length c = search needs
@@ -38,7 +38,7 @@ same-length-3 : tie.Need-same-length-3
 same-length-3 c = search needs
 
 same-length-4 : tie.Need-same-length-4
-same-length-4 c = search needs
+same-length-4 c = c .before .before .set-live-mark .kept .0
 
 returns : tie.Need-returns
 returns c =

@@ -1,7 +1,7 @@
 -- `positions::follows_last` meets its contract.
 use borrow.Author.Tests.{eqb-true}
 use Rattle.positions.specs.Positions.{first}
-use Rattle.position_tree.proofs.Order.{entry-slot}
+use Rattle.positions.proofs.Order.{entry-slot}
 use Rattle.positions.proofs.Rising.{rising-keyed, rising-loose}
 use borrow.Author.Needs.{needs}
 use Rattle.positions.proofs.follows_last.Statement.{statement}

@@ -5,8 +5,8 @@ use Prim.Native.Nat.{_-_, _≤_}
 use native.Mathlib.Omega.{arith}
 use lib.ListN.{getD}
 use borrow.Author.Needs.{needs}
-use Rattle.position_tree.specs.Decides.{Decides}
-use Rattle.position_tree.proofs.Decides.{gathered-none, gathered-more}
+use Rattle.positions.specs.Decides.{Decides}
+use Rattle.positions.proofs.Decides.{gathered-none, gathered-more}
 use Rattle.positions.specs.Positions.{NoneKeyed}
 use Rattle.positions.proofs.Firsts.{not-decides}
 use Rattle.positions.proofs.none_keyed.Statement.{statement}

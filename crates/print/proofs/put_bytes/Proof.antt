@@ -4,13 +4,13 @@ use native.Mathlib.Omega.{arith}
 use borrow.Author.Needs.{needs}
 use lib.ListN.{length, take}
 use lib.Seq.{length-sets, take-length}
-use Rattle.print.specs.Printed.{Put}
+use Rattle.print.specs.Printed.{Prints}
 use Rattle.print.proofs.Places.{put-more}
 use Rattle.print.proofs.put_bytes.Statement.{statement}
 use Rattle.print.proofs.put_bytes.Tie as tie
 
 abbrev Inv-loop : tie.InvT-loop
-Inv-loop out₀ at bytes end₀ i₀ out end i = (i ≤ length bytes) × Put out₀ at (take i bytes) out end
+Inv-loop out₀ at bytes end₀ i₀ out end i = (i ≤ length bytes) × Prints out₀ at (take i bytes) out end
 
 abbrev μ-loop : tie.MeasureT-loop
 μ-loop out₀ at bytes end₀ i₀ out end i = length bytes - i

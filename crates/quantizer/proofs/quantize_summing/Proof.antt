@@ -5,7 +5,7 @@ use native.Mathlib.Omega.{arith}
 use borrow.Author.Tests.{not-true, not-false}
 use lib.ListN.{length}
 use denote.Ref.{now}
-use Rattle.lloyd.specs.Quantizer.{codable}
+use Rattle.lloyd.specs.Quantizer.{quantizable}
 use Rattle.quantizer.proofs.Summing.{not-codable, coded-all, codable-of}
 use Rattle.quantizer.proofs.quantize_summing.Statement.{statement}
 use Rattle.quantizer.proofs.quantize_summing.Tie as tie
@@ -19,7 +19,7 @@ returns c =
     not-codable (now (a .boundaries)) (now (a .centroids)) (now (a .xs)) (now (a .codes)) (sym (c .before .is-codable .ensures) ∙ not-true _ (c .if1 .taken))
 
 room : (c : tie.Else1) → let a = c .before .before .before .before .before .before .args in
-    codable (length (now (a .boundaries))) (length (now (a .xs))) (length (now (a .codes))) ≡ true
+    quantizable (length (now (a .boundaries))) (length (now (a .xs))) (length (now (a .codes))) ≡ true
 room c = sym (c .before .is-codable .ensures) ∙ not-false _ (c .if1 .left)
 
 squares-requires : tie.Need-squares-requires

@@ -1,9 +1,8 @@
 -- `read::from_bytes` meets its contract.
-use mathlib.Core.Path.{sym, _∙_}
+use mathlib.Core.Path.{refl, sym, _∙_}
 use Rattle.index.specs.Arrays.{Arrays, lent}
 use Rattle.read.proofs.Faults.{passed-head, read-none}
 use Rattle.read.proofs.Call.{first-room, marks-room, second-room, done}
-use borrow.Author.Needs.{needs}
 use Rattle.read.proofs.from_bytes.Statement.{statement}
 use Rattle.read.proofs.from_bytes.Tie as tie
 
@@ -11,61 +10,70 @@ abbrev arrays : tie.Start → Arrays
 arrays s = lent (s .args .codes) (s .args .scales) (s .args .keys) (s .args .keyed) (s .args .held) (s .args .alive) (s .args .codes2) (s .args .scales2)
 
 read-fault-requires : tie.Need-read-fault-requires
-read-fault-requires c κs = search needs
+read-fault-requires c κs = tt
 
 sizes-in-requires : tie.Need-sizes-in-requires
 sizes-in-requires c κs = let s = c .before .before .before .before .before .before .before .before .before .before .before .before .before .before .before .before .before .before .before in passed-head (s .args .file .now) (arrays s) (sym (c .before .read-fault .ensures) ∙ c .if1 .taken)
 
 stages-in-requires : tie.Need-stages-in-requires
-stages-in-requires c κs = search needs
+stages-in-requires c κs = tt
 
 read-stage-requires : tie.Need-read-stage-requires
 read-stage-requires c κs = let s = c .before .before .before .before .before .before .before .before .before .before .before .before .before .before .before .before .before .before .before .before .before .before .before in first-room (s .args .file .now) (arrays s) (sym (c .before .before .before .before .before .read-fault .ensures) ∙ c .before .before .before .before .if1 .taken) _ (c .before .before .before .sizes-in .ensures) _ (c .stages-in .ensures)
 
 table-in-requires : tie.Need-table-in-requires
-table-in-requires c κs = search needs
+table-in-requires c κs = c .before .before .before .before .before .before .before .before .before .before .before .before .sizes-in .ensures
 
 entry-count-requires : tie.Need-entry-count-requires
-entry-count-requires c κs = search needs
+entry-count-requires c κs = c .before .before .before .before .before .before .before .before .before .before .before .before .before .sizes-in .ensures
 
 read-marks-requires : tie.Need-read-marks-requires
 read-marks-requires c κs = let s = c .before .before .before .before .before .before .before .before .before .before .before .before .before .before .before .before .before .before .before .before .before .before .before .before .before .before .before .before .before .before .before .before .before .before in marks-room (s .args .file .now) (arrays s) (sym (c .before .before .before .before .before .before .before .before .before .before .before .before .before .before .before .before .read-fault .ensures) ∙ c .before .before .before .before .before .before .before .before .before .before .before .before .before .before .before .if1 .taken) _ (c .before .before .before .before .before .before .before .before .before .before .before .before .before .before .sizes-in .ensures)
 
 second-in-requires : tie.Need-second-in-requires
-second-in-requires c κs = search needs
+second-in-requires c κs = c .before .before .before .before .before .before .before .before .before .before .before .before .before .before .before .before .before .before .before .before .before .before .before .before .before .sizes-in .ensures
 
 if-second-requires : tie.Need-if-second-requires
-if-second-requires c κs = search needs
+if-second-requires c κs = tt
 
 read-stage-requires-2 : tie.Need-read-stage-requires-2
 read-stage-requires-2 c κs = let s = c .before .before .before .before .before .before .before .before .before .before .before .before .before .before .before .before .before .before .before .before .before .before .before .before .before .before .before .before .before .before .before .before .before .before .before .before .before .before .before .before .before .before .before .before .before .before .before in second-room (s .args .file .now) (arrays s) (sym (c .before .before .before .before .before .before .before .before .before .before .before .before .before .before .before .before .before .before .before .before .before .before .before .before .before .before .before .before .before .read-fault .ensures) ∙ c .before .before .before .before .before .before .before .before .before .before .before .before .before .before .before .before .before .before .before .before .before .before .before .before .before .before .before .before .if1 .taken) _ (c .before .before .before .before .before .before .before .before .before .before .before .before .before .before .before .before .before .before .before .before .before .before .before .before .before .before .before .sizes-in .ensures) _ _ (c .before .second-in .ensures) (c .if-second .ensures)
 
 index-in-requires : tie.Need-index-in-requires
-index-in-requires c κs = search needs
+index-in-requires c κs = tt
+
+abbrev first-stage : tie.After-index-in → tie.After-read-stage
+first-stage c = c .before .before .before .before .before .before .before .before .before .before .before .before .before .before .before .before .before .before .before .before .before .before .before .before .before .before .before .before .before
+
+abbrev marked : tie.After-index-in → tie.After-read-marks
+marked c = c .before .before .before .before .before .before .before .before .before .before .before .before .before .before .before .before .before .before
+
+abbrev second-stage : tie.After-index-in → tie.After-read-stage2
+second-stage c = c .before .before .before .before .before
 
 same-length : tie.Need-same-length
-same-length c = c .before .before .before .before .before .before .before .before .before .before .before .before .before .before .before .before .before .before .before .before .before .before .before .before .before .before .before .before .before .read-stage .kept .0
+same-length c = first-stage c .read-stage .kept .0
 
 same-length-2 : tie.Need-same-length-2
-same-length-2 c = c .before .before .before .before .before .before .before .before .before .before .before .before .before .before .before .before .before .before .before .before .before .before .before .before .before .before .before .before .before .read-stage .kept .1 .0
+same-length-2 c = first-stage c .read-stage .kept .1 .0
 
 same-length-3 : tie.Need-same-length-3
-same-length-3 c = search needs
+same-length-3 c = marked c .read-marks .kept .0
 
 same-length-4 : tie.Need-same-length-4
-same-length-4 c = search needs
+same-length-4 c = marked c .read-marks .kept .1 .0
 
 same-length-5 : tie.Need-same-length-5
-same-length-5 c = search needs
+same-length-5 c = marked c .read-marks .kept .1 .1 .0
 
 same-length-6 : tie.Need-same-length-6
-same-length-6 c = search needs
+same-length-6 c = marked c .read-marks .kept .1 .1 .1 .0
 
 same-length-7 : tie.Need-same-length-7
-same-length-7 c = search needs
+same-length-7 c = second-stage c .read-stage2 .kept .0
 
 same-length-8 : tie.Need-same-length-8
-same-length-8 c = search needs
+same-length-8 c = second-stage c .read-stage2 .kept .1 .0
 
 returns : tie.Need-returns
 returns c =
@@ -92,28 +100,28 @@ returns c =
     _ (c .index-in .ensures)
 
 same-length-9 : tie.Need-same-length-9
-same-length-9 c = search needs
+same-length-9 c = refl
 
 same-length-10 : tie.Need-same-length-10
-same-length-10 c = search needs
+same-length-10 c = refl
 
 same-length-11 : tie.Need-same-length-11
-same-length-11 c = search needs
+same-length-11 c = refl
 
 same-length-12 : tie.Need-same-length-12
-same-length-12 c = search needs
+same-length-12 c = refl
 
 same-length-13 : tie.Need-same-length-13
-same-length-13 c = search needs
+same-length-13 c = refl
 
 same-length-14 : tie.Need-same-length-14
-same-length-14 c = search needs
+same-length-14 c = refl
 
 same-length-15 : tie.Need-same-length-15
-same-length-15 c = search needs
+same-length-15 c = refl
 
 same-length-16 : tie.Need-same-length-16
-same-length-16 c = search needs
+same-length-16 c = refl
 
 returns-2 : tie.Need-returns-2
 returns-2 c = let s = c .before .before .before .before .before .before .before .before .before .before .before .before .before .before .before .before .before .before .before in read-none (s .args .file .now) (arrays s) _ (c .before .read-fault .ensures) (c .if1 .left)

@@ -5,7 +5,7 @@ use Prim.Native.Nat.{ℕ, _-_}
 use native.Mathlib.Omega.{arith}
 use lib.ListN.{getD}
 use Rattle.lists.specs.Lists.{over}
-use Rattle.held_order.proofs.Writing.{Written, written-none, written-more, written-all}
+use Rattle.lists.proofs.Writing.{Written, written-none, written-more, written-all}
 use Rattle.read.proofs.Stages.{tab-take}
 use Rattle.read.proofs.read_codes.Statement.{statement}
 use Rattle.read.proofs.read_codes.Tie as tie

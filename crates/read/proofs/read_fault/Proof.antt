@@ -7,7 +7,6 @@ use Rattle.index.specs.Read.{headFault, overLimits}
 use Rattle.read.proofs.Limits.{room-is}
 use Rattle.read.proofs.Faults.{fault-head, fault-limits, fault-room, fault-body}
 use Rattle.read.proofs.Filled.{record-count}
-use borrow.Author.Needs.{needs}
 use Rattle.read.proofs.read_fault.Statement.{statement}
 use Rattle.read.proofs.read_fault.Tie as tie
 
@@ -23,22 +22,22 @@ limits-kept : (c : tie.Else2) → overLimits (c .before .before .before .before 
 limits-kept c = sym (c .before .over-limits .ensures) ∙ c .if2 .left
 
 head-fault-requires : tie.Need-head-fault-requires
-head-fault-requires c κs = search needs
+head-fault-requires c κs = tt
 
 returns : tie.Need-returns
 returns c = let s = c .before .before .before .before .before .before .before .before .before .before .before in c .before .head-fault .ensures ∙ fault-head (s .args .file .now) (arrays s) (λ e. c .if1 .taken (c .before .head-fault .ensures ∙ e))
 
 over-limits-requires : tie.Need-over-limits-requires
-over-limits-requires c κs = search needs
+over-limits-requires c κs = tt
 
 returns-2 : tie.Need-returns-2
 returns-2 c = let s = c .before .before .before .before .before .before .before .before .before .before .before .before .before in fault-limits (s .args .file .now) (arrays s) (head-sound (c .before .before)) (sym (c .before .over-limits .ensures) ∙ c .if2 .taken)
 
 index-in-requires : tie.Need-index-in-requires
-index-in-requires c κs = search needs
+index-in-requires c κs = tt
 
 capacity-requires : tie.Need-capacity-requires
-capacity-requires c κs = search needs
+capacity-requires c κs = tt
 
 returns-3 : tie.Need-returns-3
 returns-3 c =

@@ -1,7 +1,7 @@
 -- `read::read_marks` meets its contract.
 use mathlib.Core.Path.{_∙_}
+use Rattle.marks.proofs.First.{first-room}
 use Rattle.held_order.proofs.Writing.{in-place}
-use Rattle.read.proofs.Stages.{words-there, marks-there}
 use borrow.Author.Needs.{needs}
 use Rattle.read.proofs.read_marks.Statement.{statement}
 use Rattle.read.proofs.read_marks.Tie as tie
@@ -31,10 +31,10 @@ returns : tie.Need-returns
 returns c =
     let p = c .before .before .before .before .before .before .before .before .before .before .before .before .before .before .before .before .before .before .before .before .before .before .pre in
     let k = c .before .before .before .before .before .before .before .before .before .before .before .before .before .before .set-keys .ensures in (
-      k .0 ∙ words-there _ _ _ _ _ (p .1) (p .2),
+      k .0,
       (
-        k .1 ∙ marks-there _ _ _ _ _ (p .2) (p .1),
-        (c .before .before .before .before .before .before .restore-order .ensures ∙ in-place _ _ _ _ (p .0) (p .3), c .before .before .mark-live .ensures),
+        k .1,
+        (c .before .before .before .before .before .before .restore-order .ensures ∙ in-place _ _ _ _ (p .0) (p .3), c .before .before .mark-live .ensures ∙ first-room (λ _. 1) _ _ (p .4)),
       ),
     )
 

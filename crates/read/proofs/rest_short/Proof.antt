@@ -1,13 +1,12 @@
 -- `read::rest_short` meets its contract.
 use mathlib.Core.Path.{ap, ap₂, _∙_}
-use mathlib.Core.Bool.{cond}
-use Prim.Native.Nat.{ℕ, _+_, _*_}
 use native.Mathlib.Omega.{arith}
 use borrow.Author.Tests.{lt-ltb, le-ltb}
 use lib.Dec.{ltb}
 use lib.ListN.{length}
-use Rattle.index.specs.Read.{hasKeys, secondIn, secondLength}
-use Rattle.read.proofs.Limits.{version-is, second-is}
+use Rattle.index.specs.Form.{tableSize}
+use Rattle.index.specs.Read.{secondIn, secondLength}
+use Rattle.read.proofs.Limits.{form-is, second-is}
 use borrow.Author.Needs.{needs}
 use Rattle.read.proofs.rest_short.Statement.{statement}
 use Rattle.read.proofs.rest_short.Tie as tie
@@ -36,7 +35,7 @@ returns-2 c =
     let f = s .args .file .now in
     rw (le-ltb (length (secondIn f)) (secondLength f) (omega (arith, c .before .before .before .if1 .left, ap length (c .before .before .before .before .before .second-in .ensures), second-is f (s .args .sizes) (s .pre))))
     (ap₂ ltb (ap length (c .before .before .table-in .ensures))
-    (c .table-length .ensures ∙ ap₂ (λ (v k : ℕ). cond (hasKeys v) (4 + k * 12) 0) (version-is f (s .args .sizes) (s .pre)) (c .before .entry-count .ensures)))
+    (c .table-length .ensures ∙ ap₂ tableSize (form-is f (s .args .sizes) (s .pre)) (c .before .entry-count .ensures)))
 
 pub rest-short-spec : {M : Type 1} → statement M
 rest-short-spec =

@@ -1,12 +1,11 @@
 -- `relabel::may_relabel` meets its contract.
 use mathlib.Core.Path.{sym}
-use borrow.Author.Needs.{needs}
 use Rattle.relabel.proofs.Tests.{none-held, same-key, other-key}
 use Rattle.relabel.proofs.may_relabel.Statement.{statement}
 use Rattle.relabel.proofs.may_relabel.Tie as tie
 
 held-count-requires : tie.Need-held-count-requires
-held-count-requires c κs = search needs
+held-count-requires c κs = tt
 
 returns : tie.Need-returns
 returns c = rw (sym (c .before .held-count .ensures)) (none-held _ _ _ _ (c .if1 .taken))
@@ -15,7 +14,7 @@ returns-2 : tie.Need-returns-2
 returns-2 c = rw (sym (c .before .before .held-count .ensures)) (same-key _ _ _ _ (c .before .if1 .left) (c .if2 .taken))
 
 held-count-requires-2 : tie.Need-held-count-requires-2
-held-count-requires-2 c κs = search needs
+held-count-requires-2 c κs = tt
 
 returns-3 : tie.Need-returns-3
 returns-3 c =

@@ -1,9 +1,9 @@
 -- `relabel::relabel` meets its contract.
-use mathlib.Core.Path.{sym, _∙_}
-use borrow.Author.Needs.{needs}
+use mathlib.Core.Path.{refl, sym, _∙_}
 use Rattle.index.specs.Arrays.{Arrays, lent}
 use Rattle.index.proofs.Calls.{call-misfit}
-use Rattle.relabel.proofs.Accepted.{room, relabel-no, relabel-yes}
+use Rattle.remarking.proofs.Marked.{room}
+use Rattle.relabel.proofs.Accepted.{relabel-no, relabel-yes}
 use Rattle.relabel.proofs.relabel.Statement.{statement}
 use Rattle.relabel.proofs.relabel.Tie as tie
 
@@ -11,10 +11,10 @@ abbrev arrays : tie.Start → Arrays
 arrays s = lent (s .args .codes) (s .args .scales) (s .args .keys) (s .args .keyed) (s .args .held) (s .args .alive) (s .args .codes2) (s .args .scales2)
 
 fits-requires : tie.Need-fits-requires
-fits-requires c κs = search needs
+fits-requires c κs = tt
 
 may-relabel-requires : tie.Need-may-relabel-requires
-may-relabel-requires c κs = search needs
+may-relabel-requires c κs = tt
 
 relabel-slots-requires : tie.Need-relabel-slots-requires
 relabel-slots-requires c κs =
@@ -24,7 +24,7 @@ relabel-slots-requires c κs =
     room (s .args .index) (arrays s) e .keys
 
 same-length : tie.Need-same-length
-same-length c = search needs
+same-length c = c .before .before .relabel-slots .kept .0
 
 returns : tie.Need-returns
 returns c =
@@ -35,7 +35,7 @@ returns c =
     sym (relabel-yes (s .args .index) (arrays s) e (s .args .old) (s .args .new) t _ (c .before .before .relabel-slots .ensures))
 
 same-length-2 : tie.Need-same-length-2
-same-length-2 c = search needs
+same-length-2 c = refl
 
 returns-2 : tie.Need-returns-2
 returns-2 c =
@@ -45,7 +45,7 @@ returns-2 c =
     sym (relabel-no (s .args .index) (arrays s) e (s .args .old) (s .args .new) (sym (c .before .may-relabel .ensures) ∙ c .if2 .left))
 
 same-length-3 : tie.Need-same-length-3
-same-length-3 c = search needs
+same-length-3 c = refl
 
 returns-3 : tie.Need-returns-3
 returns-3 c =

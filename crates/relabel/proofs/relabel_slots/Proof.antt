@@ -5,15 +5,15 @@ use Prim.Native.Nat.{_+_, _-_, _≤_, _<_}
 use native.Mathlib.Omega.{arith}
 use lib.ListN.{length}
 use borrow.Author.Needs.{needs}
-use Rattle.held.specs.Held.{slotHas}
-use Rattle.relabel.specs.Replaced.{replaced}
-use Rattle.relabel.proofs.Replaced.{replaced-none, replaced-length}
+use Rattle.slot_keys.specs.Has.{slotHas}
+use Rattle.remarking.specs.Replaced.{replacedWhere}
+use Rattle.remarking.proofs.Replaced.{replaced-none, replaced-length}
 use Rattle.relabel.proofs.Loops.{relabel-next}
 use Rattle.relabel.proofs.relabel_slots.Statement.{statement}
 use Rattle.relabel.proofs.relabel_slots.Tie as tie
 
 abbrev Inv-loop : tie.InvT-loop
-Inv-loop keys₀ keyed n old new i₀ keys i = (i ≤ n) × (length keys ≡ length keys₀) × (keys ≡ replaced (slotHas keys₀ keyed old) i new 0 keys₀)
+Inv-loop keys₀ keyed n old new i₀ keys i = (i ≤ n) × (length keys ≡ length keys₀) × (keys ≡ replacedWhere (slotHas keys₀ keyed old) i new 0 keys₀)
 
 abbrev μ-loop : tie.MeasureT-loop
 μ-loop keys₀ keyed n old new i₀ keys i = n - i

@@ -1,11 +1,10 @@
 -- `scan::byte_lanes` meets its contract.
 use native.Mathlib.Omega.{arith}
-use Prim.Native.Nat.{_-_}
+use Prim.Native.Nat.{_-_, _≤_, _%_}
 use lib.ListN.{length}
 use Rattle.score.proofs.Lanes.{InLanes}
 use Rattle.scan.proofs.Kernels.{lanes-none, bytesTerms, bytes-again, bytes-end}
 use mathlib.Core.Path.{_≡_, refl}
-use Prim.Native.Nat.{_≤_, _%_}
 use Rattle.scan.proofs.byte_lanes.Statement.{statement}
 use Rattle.scan.proofs.byte_lanes.Tie as tie
 

@@ -4,14 +4,14 @@ use mathlib.Core.Path.{_≡_, refl}
 use Prim.Native.Nat.{_+_, _-_, _≤_}
 use lib.ListN.{length, length-set}
 use denote.Ref.{now}
-use Rattle.scan.specs.Groups.{Changed}
+use Rattle.scan.specs.Groups.{Rescored}
 use Rattle.scan.proofs.Entries.{changed-none, changed-end, groupEntry, group-next}
 use native.Mathlib.Nat.{add-zero}
 use Rattle.scan.proofs.enter_group.Statement.{statement}
 use Rattle.scan.proofs.enter_group.Tie as tie
 
 abbrev Inv-loop : tie.InvT-loop
-Inv-loop bits sums scales marks first many second all₀ k₀ all k = (k ≤ many) × (length all ≡ length all₀) × Changed (groupEntry bits sums scales marks second first k all₀ all) first (first + k) all₀ all
+Inv-loop bits sums scales marks first many second all₀ k₀ all k = (k ≤ many) × (length all ≡ length all₀) × Rescored (groupEntry bits sums scales marks second first k all₀ all) first (first + k) all₀ all
 
 abbrev μ-loop : tie.MeasureT-loop
 μ-loop bits sums scales marks first many second all₀ k₀ all k = many - k

@@ -3,7 +3,7 @@ use borrow.Author.Needs.{needs}
 use native.Mathlib.Omega.{arith}
 use lib.ListN.{length}
 use denote.Ref.{now}
-use Rattle.scan.specs.Scan.{stageOf, entry}
+use Rattle.scan.specs.Scan.{stageOf, scoreNow}
 use Rattle.scan.specs.Groups.{scoreBy}
 use Rattle.scan.proofs.Sizes.{levels-of, fit-of}
 use Rattle.scan.proofs.Entries.{changed-like, entry-like}
@@ -68,8 +68,8 @@ returns c = let s = c .before .before .before .before .before .before .before .b
     let g = s .pre .0 in
     let a = s .args in
     let e = c .before .before .before .before .before .before .before .before .before .before .before .before .halve in
-    changed-like (entry (scoreBy (a .bits) _ _ _ (now (a .query)) (a .size) (now (a .codes)) (now (a .scales))) (now (a .marks)) (a .second))
-    (entry (stageOf (a .bits) (now (a .centroids)) (now (a .query)) (a .size) (now (a .codes)) (now (a .scales))) (now (a .marks)) (a .second)) 0 (a .n) (now (a .all)) _
+    changed-like (scoreNow (scoreBy (a .bits) _ _ _ (now (a .query)) (a .size) (now (a .codes)) (now (a .scales))) (now (a .marks)) (a .second))
+    (scoreNow (stageOf (a .bits) (now (a .centroids)) (now (a .query)) (a .size) (now (a .codes)) (now (a .scales))) (now (a .marks)) (a .second)) 0 (a .n) (now (a .all)) _
     (λ i old p q. entry-like (scoreBy (a .bits) _ _ _ (now (a .query)) (a .size) (now (a .codes)) (now (a .scales))) (now (a .marks)) (a .second)
     (stageOf (a .bits) (now (a .centroids)) (now (a .query)) (a .size) (now (a .codes)) (now (a .scales))) i old
     (λ t. score-by (a .bits) (now (a .centroids)) _ (now (a .query)) _ _ (a .size) (now (a .codes)) (now (a .scales)) (a .n) _ _ g (λ k. c .before .before .before .before .before .before .before .before .before .before .before .before .before .before .before .before .before .before .before .before .before .before .before .before .shared-slice-known3 .given k .fits) (e .ensures) (c .before .before .before .before .before .before .before .before .before .before .before .before .before .before .before .before .before .before .fill-pairs .ensures) i q))

@@ -4,8 +4,8 @@ use mathlib.Core.Path.{_≡_, refl}
 use Prim.Native.Nat.{_+_, _-_, _≤_}
 use lib.ListN.{length}
 use denote.Ref.{now}
-use Rattle.scan.specs.Scan.{entry}
-use Rattle.scan.specs.Groups.{scoreBy, Changed}
+use Rattle.scan.specs.Scan.{scoreNow}
+use Rattle.scan.specs.Groups.{scoreBy, Rescored}
 use Rattle.scan.proofs.Sizes.{within}
 use Rattle.scan.proofs.Entries.{changed-none, changed-join, changed-end}
 use Rattle.scan.proofs.Raws.{group-changed}
@@ -15,7 +15,7 @@ use Rattle.scan.proofs.scan_groups.Tie as tie
 abbrev Inv-loop : tie.InvT-loop
 Inv-loop bits query size codes scales marks evens odds pairs n second sums₀ all₀ first₀ sums all first =
     (first ≤ n) × (length sums ≡ length sums₀) × (length all ≡ length all₀)
-    × Changed (entry (scoreBy bits evens odds pairs query size codes scales) marks second) 0 first all₀ all
+    × Rescored (scoreNow (scoreBy bits evens odds pairs query size codes scales) marks second) 0 first all₀ all
 
 abbrev μ-loop : tie.MeasureT-loop
 μ-loop bits query size codes scales marks evens odds pairs n second sums₀ all₀ first₀ sums all first =

@@ -5,14 +5,14 @@ use mathlib.Core.Path.{_≡_, refl}
 use Prim.Native.Nat.{_-_, _≤_}
 use lib.ListN.{length, length-set}
 use denote.Ref.{now}
-use Rattle.scan.specs.Scan.{stageOf, entry}
-use Rattle.scan.specs.Groups.{Changed}
+use Rattle.scan.specs.Scan.{stageOf, scoreNow}
+use Rattle.scan.specs.Groups.{Rescored}
 use Rattle.scan.proofs.Entries.{changed-none, plain-next, changed-end}
 use Rattle.scan.proofs.scan_plainly.Statement.{statement}
 use Rattle.scan.proofs.scan_plainly.Tie as tie
 
 abbrev Inv-loop : tie.InvT-loop
-Inv-loop bits centroids query size codes scales marks n second all₀ i₀ all i = (i ≤ n) × (length all ≡ length all₀) × Changed (entry (stageOf bits centroids query size codes scales) marks second) 0 i all₀ all
+Inv-loop bits centroids query size codes scales marks n second all₀ i₀ all i = (i ≤ n) × (length all ≡ length all₀) × Rescored (scoreNow (stageOf bits centroids query size codes scales) marks second) 0 i all₀ all
 
 abbrev μ-loop : tie.MeasureT-loop
 μ-loop bits centroids query size codes scales marks n second all₀ i₀ all i = n - i

@@ -6,6 +6,7 @@ use denote.Ref.{now}
 use Rattle.lloyd.specs.Tables.{centroidsOf}
 use Rattle.lloyd.proofs.Places.{lent, lent-fits}
 use Rattle.lloyd.proofs.Widths.{centroids-length}
+use Rattle.unit.specs.Brought.{queryOf}
 use Rattle.unit.proofs.Rotatable.{rotatable-of}
 use Rattle.index.specs.State.{headerOf}
 use Rattle.score_slot.proofs.Slot.{query-lent, score-lent}
@@ -65,7 +66,7 @@ returns c =
     let levels = c .before .before .before .before .before .before .before .before .before .before .before .levels .ensures in
     let q = now (s .args .query) in
     c .score-prepared .ensures ∙
-    score-lent (headerOf (s .args .index)) q _ _ _ _ (lent (centroidsOf _) _ _ centroids (levels ∙ sym (centroids-length _)))
+    score-lent (headerOf (s .args .index)) (queryOf q) _ _ _ _ (lent (centroidsOf _) _ _ centroids (levels ∙ sym (centroids-length _)))
     (query-lent _ _ q (floats .result) _ _ (rw places (s .pre .1)) (c .before .before .before .before .before .before .prepare .ensures) _ padded)
 
 pub score-by-width-spec : {M : Type 1} → statement M

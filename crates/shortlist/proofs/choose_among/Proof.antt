@@ -2,7 +2,7 @@
 use Prim.Native.Nat.{ℕ}
 use native.Mathlib.Omega.{arith}
 use lib.ListN.{getD}
-use Rattle.choose_slots.specs.Slots.{answered}
+use Rattle.choose_slots.specs.Slots.{listedWithin}
 use Rattle.choose_slots.proofs.Listed.{answered-few}
 use Rattle.shortlist.proofs.Places.{over-reach, over-part}
 use Rattle.shortlist.proofs.choose_among.Statement.{statement}
@@ -21,7 +21,7 @@ part-rename-end : tie.Need-part-rename-end
 part-rename-end c =
     let a = c .before .before .before .before .before .before .before .args in
     let e = c .before .before .choose .ensures in
-    over-reach (answered (a .numbers .now) (a .k) (a .slots .now)) (a .slots .now) (e .0) (e .1) (answered-few (a .numbers .now) (a .k) (a .slots .now))
+    over-reach (listedWithin (a .numbers .now) (a .k) (a .slots .now)) (a .slots .now) (e .0) (e .1) (answered-few (a .numbers .now) (a .k) (a .slots .now))
 
 rename-requires : tie.Need-rename-requires
 rename-requires c κs = tt
@@ -33,7 +33,7 @@ returns : tie.Need-returns
 returns c =
     let a = c .before .before .before .before .before .before .before .before .before .before .before .args in
     let e = c .before .before .before .before .before .before .choose .ensures in
-    (e .0, over-part (λ (i : ℕ). getD (a .names .now) i 0) (answered (a .numbers .now) (a .k) (a .slots .now)) (a .slots .now) (e .0) (e .1) (c .before .before .rename .ensures))
+    (e .0, over-part (λ (i : ℕ). getD (a .names .now) i 0) (listedWithin (a .numbers .now) (a .k) (a .slots .now)) (a .slots .now) (e .0) (e .1) (c .before .before .rename .ensures))
 
 pub choose-among-spec : {M : Type 1} → statement M
 choose-among-spec =

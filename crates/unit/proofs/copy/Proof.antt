@@ -2,7 +2,7 @@ use mathlib.Core.Path.{refl}
 use lib.Ieee.{nan}
 use Prim.Native.Nat.{_-_}
 use lib.ListN.{length}
-use Rattle.unit.proofs.Filling.{Filled, filled-none, filled-next, filled-all}
+use Rattle.vectors.proofs.Filling.{Filled, filled-none, filled-next, filled-all}
 use borrow.Author.Needs.{needs}
 use Rattle.unit.proofs.copy.Statement.{statement}
 use Rattle.unit.proofs.copy.Tie as tie

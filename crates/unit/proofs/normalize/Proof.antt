@@ -5,8 +5,8 @@ use Rattle.unit.proofs.normalize.Statement.{statement}
 use Rattle.unit.proofs.normalize.Tie as tie
 use Rattle.unit.proofs.normalize.Reads as reads
 use Rattle.unit.proofs.normalize.Lts as lts
-use Rattle.unit.proofs.divide.Reads as divide-reads
-use Rattle.unit.proofs.sum_squares.Reads as sum-squares-reads
+use Rattle.vectors.proofs.divide.Reads as divide-reads
+use Rattle.vectors.proofs.sum_squares.Reads as sum-squares-reads
 use Rattle.sqrt.proofs.sqrt.Reads as sqrt-reads
 
 sum-squares-requires : tie.Need-sum-squares-requires

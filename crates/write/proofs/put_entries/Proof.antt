@@ -5,8 +5,8 @@ use Prim.Native.Nat.{_-_}
 use native.Mathlib.Omega.{arith}
 use borrow.Author.Needs.{needs}
 use Rattle.lists.specs.Keep.{bit, count}
-use Rattle.held.specs.Held.{below}
-use Rattle.layout.specs.Counts.{liveAt}
+use Rattle.lists.specs.Lists.{below}
+use Rattle.marks.specs.Live.{liveAt}
 use Rattle.layout.proofs.Counting.{count-one, count-few}
 use Rattle.write.specs.Pieces.{keyPiece}
 use Rattle.write.proofs.Putting.{put-length, Run, run-none, run-room, run-more, run-all}

@@ -3,17 +3,17 @@ use mathlib.Core.Path.{sym, _∙_}
 use mathlib.Core.List.{List, _++_}
 use Prim.Native.Nat.{ℕ}
 use lib.ListN.{getD}
-use Rattle.index.specs.File.{le}
+use Rattle.index.specs.File.{leBytes}
 use Rattle.write.proofs.Putting.{put-room, put-more, room-first, piece-room, piece-put, piece-none}
 use borrow.Author.Needs.{needs}
 use Rattle.write.proofs.put_entry.Statement.{statement}
 use Rattle.write.proofs.put_entry.Tie as tie
 
 abbrev first : tie.Start → List ℕ
-first s = le 4 (s .args .number)
+first s = leBytes 4 (s .args .number)
 
 abbrev second : tie.Start → List ℕ
-second s = le 8 (getD (s .args .keys .now) (s .args .slot) 0)
+second s = leBytes 8 (getD (s .args .keys .now) (s .args .slot) 0)
 
 has-entry-requires : tie.Need-has-entry-requires
 has-entry-requires c κs = search needs

@@ -7,12 +7,6 @@ use Rattle.write.proofs.put_head.Tie as tie
 put-number-requires : tie.Need-put-number-requires
 put-number-requires c κs = search needs
 
-version-of-requires : tie.Need-version-of-requires
-version-of-requires c κs = search needs
-
-cast-put-number : tie.Need-cast-put-number
-cast-put-number c = search needs
-
 put-number-requires-2 : tie.Need-put-number-requires-2
 put-number-requires-2 c κs = search needs
 
@@ -36,8 +30,8 @@ same-length c = search needs
 
 returns : tie.Need-returns
 returns c =
-    let p = c .before .before .before .before .before .before .before .before .before .before .before .before .before .before .before .before .before .before .before .before .before .before .before .before .put-number .ensures in
-    let version = rw (c .before .before .before .before .before .before .before .before .before .before .before .before .before .before .before .before .before .before .before .before .version-of .ensures) at (c .before .before .before .before .before .before .before .before .before .before .before .before .before .before .before .before .before .before .before .put-number2 .ensures) in
+    let p = c .before .before .before .before .before .before .before .before .before .before .before .before .before .before .before .before .before .before .before .before .before .before .before .put-number .ensures in
+    let version = c .before .before .before .before .before .before .before .before .before .before .before .before .before .before .before .before .before .before .before .put-number2 .ensures in
     let working = rw (c .before .before .before .before .before .before .before .before .before .before .before .before .before .before .before .working-field .ensures) at (c .before .before .before .before .before .before .before .before .before .before .before .before .before .before .put-number3 .ensures) in
     put-more (put-more (put-more (put-more (put-more p version) working) (c .before .before .before .before .before .before .before .before .before .before .put-number4 .ensures)) (c .before .before .before .before .before .before .put-number5 .ensures)) (c .before .before .put-number6 .ensures)
 
@@ -46,8 +40,6 @@ put-head-spec =
     tie.close
     (tie.spec
     put-number-requires
-    version-of-requires
-    cast-put-number
     put-number-requires-2
     working-field-requires
     put-number-requires-3

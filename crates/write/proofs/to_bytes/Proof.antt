@@ -25,21 +25,24 @@ returns-2 c =
     let m = measured _ _ _ (rw (c .before .before .measured .given .1) at (c .before .before .before .before .file-length .ensures)) in
     write-short _ _ _ (m .0) _ (m .1) (c .if1 .taken)
 
+version-of-requires : tie.Need-version-of-requires
+version-of-requires c κs = search needs
+
 block-size-requires : tie.Need-block-size-requires
 block-size-requires c κs = search needs
 
 put-file-requires : tie.Need-put-file-requires
 put-file-requires c κs =
-    let m = measured _ _ _ (rw (c .before .before .before .before .measured .given .1) at (c .before .before .before .before .before .before .file-length .ensures)) in
-    (whole-block _ _ (m .0) _ (c .block-size .ensures), file-room _ _ _ _ (m .1) (c .before .before .if1 .left))
+    let m = measured _ _ _ (rw (c .before .before .before .before .before .measured .given .1) at (c .before .before .before .before .before .before .before .file-length .ensures)) in
+    (whole-block _ _ (m .0) _ (c .block-size .ensures), file-room _ _ _ _ _ (c .before .version-of .ensures) (m .1) (c .before .before .before .if1 .left))
 
 same-length : tie.Need-same-length
 same-length c = search needs
 
 returns-3 : tie.Need-returns-3
 returns-3 c =
-    let m = measured _ _ _ (rw (c .before .before .before .before .before .before .before .measured .given .1) at (c .before .before .before .before .before .before .before .before .before .file-length .ensures)) in
-    write-done _ _ _ (m .0) _ _ _ (m .1) (c .before .before .before .before .before .if1 .left) (c .before .before .put-file .ensures)
+    let m = measured _ _ _ (rw (c .before .before .before .before .before .before .before .before .measured .given .1) at (c .before .before .before .before .before .before .before .before .before .before .file-length .ensures)) in
+    write-done _ _ _ (m .0) _ _ _ _ (c .before .before .before .before .version-of .ensures) (m .1) (c .before .before .before .before .before .before .if1 .left) (c .before .before .put-file .ensures)
 
 pub to-bytes-spec : {M : Type 1} → statement M
 to-bytes-spec =
@@ -50,6 +53,7 @@ to-bytes-spec =
     enum-told
     returns
     returns-2
+    version-of-requires
     block-size-requires
     put-file-requires
     same-length

@@ -2,7 +2,7 @@
 use mathlib.Core.Path.{refl}
 use borrow.Author.Needs.{needs}
 use lib.Ieee.{neg, ofBits}
-use Rattle.signs.specs.Signs.{xorRight, xorLeft, step, output}
+use Rattle.signs.specs.Signs.{xorRight, xorLeft, nextState, output}
 use Rattle.signs.proofs.Signs.{sign-by-top}
 use Rattle.signs.proofs.SignStream.next_sign.Statement.{statement}
 use Rattle.signs.proofs.SignStream.next_sign.Tie as tie
@@ -17,7 +17,7 @@ array-read-sign : tie.Need-array-read-sign
 array-read-sign c = search needs
 
 returns : tie.Need-returns
-unfolding xorRight xorLeft step output neg ofBits
+unfolding xorRight xorLeft nextState output neg ofBits
 returns c = (refl, sign-by-top _ _ _ (c .scrambled .ensures))
 
 pub next-sign-spec : {M : Type 1} → statement M

@@ -1,0 +1,2 @@
+-- Laws of words written over lent slices.
+mod Places

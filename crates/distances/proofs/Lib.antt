@@ -1,4 +1,0 @@
--- Laws of the cascade's distances.
-pub mod Distance
-mod Lanes
-mod Pairs

@@ -1,4 +1,0 @@
--- What the contracts of this and of other crates cite.
-pub mod Distances
-pub mod Lanes
-pub mod Pairs

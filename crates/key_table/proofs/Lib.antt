@@ -1,3 +1,0 @@
--- Laws of the key table.
-mod Once
-pub mod Keys

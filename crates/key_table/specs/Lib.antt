@@ -1,2 +1,0 @@
--- What the entries of a key table give.
-pub mod Table

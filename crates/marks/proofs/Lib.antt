@@ -1,0 +1,2 @@
+-- Laws of marking the first slots.
+pub mod First

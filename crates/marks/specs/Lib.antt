@@ -1,0 +1,2 @@
+-- Whether a slot is live.
+pub mod Live

@@ -1,0 +1,2 @@
+-- What the contracts of this crate cite: how numbers are printed.
+pub mod Numerals

@@ -1,4 +1,0 @@
--- What the contracts of this crate cite.
-pub mod Decides
-pub mod Ordered
-pub mod Tree

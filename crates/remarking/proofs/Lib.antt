@@ -1,0 +1,3 @@
+-- Laws of calls that change marks.
+pub mod Replaced
+pub mod Marked

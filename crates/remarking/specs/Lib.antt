@@ -1,0 +1,3 @@
+-- What calls that change marks leave.
+pub mod Replaced
+pub mod Live

@@ -1,0 +1,5 @@
+-- Laws of removal.
+mod Parts
+mod Only
+mod Loops
+mod Accepted

@@ -1,0 +1,3 @@
+-- Laws of a width call and of enabling the cascade.
+mod SameSlots
+mod Setting

@@ -1,0 +1,2 @@
+-- Whether a slot has a key, by its word.
+mod Has

@@ -1,0 +1,2 @@
+-- Whether a slot has a key.
+pub mod Has

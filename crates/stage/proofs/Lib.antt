@@ -1,4 +1,0 @@
--- Laws that the proofs of this crate's functions cite, and those of the crates above.
-mod Filling
-pub mod Fit
-pub mod Stages

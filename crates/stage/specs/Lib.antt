@@ -1,3 +1,0 @@
--- What the contracts of this and of other crates cite.
-pub mod Coding
-pub mod Calls

@@ -1,0 +1,2 @@
+-- What the contracts of this and of other crates cite.
+pub mod Vectors

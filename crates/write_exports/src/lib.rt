@@ -1,0 +1,41 @@
+// Writing, for C and Rust. `fields` are the words of the record (crate words); how many bytes goes to the first place of `answer`.
+ghost use mathlib.Core.Path.{_≡_};
+ghost use Rattle.index.specs.Arrays.{lent};
+ghost use Rattle.words.specs.Put.{put};
+ghost use Rattle.words.specs.Exports.{fileLeft, writes};
+use words::Record;
+
+#[no_mangle]
+pub extern "C" fn vecq_to_bytes(
+    fields: &[u64],
+    answer: &mut [u64],
+    codes: &[u8],
+    scales: &[u32],
+    keys: &[u64],
+    keyed: &[bool],
+    held: &[u32],
+    alive: &[u8],
+    codes2: &[u8],
+    scales2: &[u32],
+    file: &mut [u8],
+) -> u8
+    ensures { λ r. let a = lent (codes .entry) (scales .entry) (keys .entry) (keyed .entry) (held .entry) (alive .entry) (codes2 .entry) (scales2 .entry) in
+        ⌜ fileLeft (put r (now (answer .exit))) (now (file .exit)) ≡ writes a (now (fields .entry)) (now (answer .entry)) (now (file .entry)) ⌝ }
+{
+    let Record::Fields(index) = words::record_beside(fields, answer) else {
+        return 13;
+    };
+    let written = write::to_bytes(
+        index,
+        codes,
+        scales,
+        keys,
+        keyed,
+        held,
+        alive,
+        codes2,
+        scales2,
+        file,
+    );
+    answer_words::put_written(written, answer)
+}
