@@ -18,8 +18,8 @@ fn add_ours(ours: &mut Ours, kind: Keys, vectors: &[Vec<f32>]) -> f64 {
         for (i, vector) in vectors.iter().enumerate() {
             let added = match kind {
                 Keys::None => ours.add(vector),
-                Keys::Rising | Keys::Random => ours.add_keyed(kind.of(n + i), vector),
-                Keys::One | Keys::Shuffled => ours.add_keyed_multi(kind.of(n + i), vector),
+                Keys::Rising | Keys::Random | Keys::Apart => ours.add_keyed(kind.of(n + i), vector),
+                Keys::One | Keys::Shuffled | Keys::Top => ours.add_keyed_multi(kind.of(n + i), vector),
             };
             same::equal("a slot that was added", added, Ok(n + i));
         }
@@ -32,8 +32,8 @@ fn add_rust(rust: &mut dyn Rust, kind: Keys, n: usize, vectors: &[Vec<f32>]) -> 
         for (i, vector) in vectors.iter().enumerate() {
             let slot = match kind {
                 Keys::None => rust.add(vector),
-                Keys::Rising | Keys::Random => rust.add_keyed(kind.of(n + i), vector),
-                Keys::One | Keys::Shuffled => rust.add_keyed_multi(kind.of(n + i), vector),
+                Keys::Rising | Keys::Random | Keys::Apart => rust.add_keyed(kind.of(n + i), vector),
+                Keys::One | Keys::Shuffled | Keys::Top => rust.add_keyed_multi(kind.of(n + i), vector),
             };
             std::hint::black_box(slot);
         }

@@ -1,6 +1,7 @@
-//! Indexes filled by a fixed random generator: any codes, plausible scales, four kinds of keys.
+//! Indexes filled by a fixed random generator: any codes, plausible scales, several kinds of keys.
 use crate::library::{Arrays, Ours, Record, LIVE, N};
 use crate::random::Random;
+use std::collections::HashMap;
 
 pub const SEED: u64 = 42;
 
@@ -49,9 +50,16 @@ pub enum Keys {
     One,
     /// One key for all, held in no order.
     Shuffled,
+    /// A key each, all the same modulo 65,521.
+    Apart,
+    /// 256 keys in turn, which differ in their highest byte alone.
+    Top,
 }
 
 pub const KEYS: [Keys; 4] = [Keys::None, Keys::Rising, Keys::Random, Keys::One];
+
+/// As a partner who wants our calls to be slow might choose them, and others to compare with.
+pub const CHOSEN: [Keys; 5] = [Keys::Rising, Keys::Random, Keys::One, Keys::Apart, Keys::Top];
 
 impl Keys {
     pub fn name(self) -> &'static str {
@@ -61,6 +69,8 @@ impl Keys {
             Keys::Random => "random",
             Keys::One => "one",
             Keys::Shuffled => "one, shuffled",
+            Keys::Apart => "65,521 apart",
+            Keys::Top => "top byte",
         }
     }
 
@@ -71,6 +81,8 @@ impl Keys {
             Keys::Rising => 7 + 3 * slot as u64,
             Keys::Random => Random::new(slot as u64).word(),
             Keys::One | Keys::Shuffled => 5,
+            Keys::Apart => 65_521 * slot as u64,
+            Keys::Top => 5 + ((slot as u64 % 256) << 56),
         }
     }
 }
@@ -120,18 +132,16 @@ pub fn key(arrays: &mut Arrays, kind: Keys, n: usize) {
         let mut random = Random::new(99);
         (1..n).rev().for_each(|i| order.swap(i, random.below(i as u64 + 1) as usize));
     }
-    let mut next = 0;
+    let mut next: HashMap<u64, u32> = HashMap::new();
     for slot in 0..n {
         let on = kind != Keys::None && arrays.alive[slot] == 1;
         arrays.keys[slot] = if on { kind.of(slot) } else { 0 };
         arrays.keyed[slot] = on;
         arrays.held[slot] = 0;
-        if on && kind == Keys::One {
-            arrays.held[slot] = next;
-            next += 1;
-        }
-        if on && kind == Keys::Shuffled {
-            arrays.held[slot] = order[slot];
+        if on {
+            let position = next.entry(arrays.keys[slot]).or_insert(0);
+            arrays.held[slot] = if kind == Keys::Shuffled { order[slot] } else { *position };
+            *position += 1;
         }
     }
 }

@@ -1,7 +1,7 @@
 //! The tables of single calls.
 use crate::change;
 use crate::clock::Times;
-use crate::data::{Keys, Width, KEYS, WIDTHS};
+use crate::data::{Keys, Width, CHOSEN, KEYS, WIDTHS};
 use crate::look::{Look, Three};
 use crate::table::{count, ms, ratio, us, Table};
 
@@ -66,6 +66,23 @@ pub fn keyed() {
                 table.row(row(&[count(n), kind.name().to_string(), count(k)], cells(ms, &look.search_keyed(k))));
             }
         }
+    }
+    table.print();
+}
+
+/// The calls that look for the slots of each key, at as many slots as there can be.
+pub fn chosen() {
+    const N: usize = 65_536;
+    println!("Calls whose time could go by the keys: {} slots of 16 entries, 4 bits, ms (minimum / median). About a quarter is dead where it is compacted.\n", count(N));
+    let mut table = Table::new(&["call", "keys", "k", "ours", "Rust, scalar", "Rust, AVX2", "× scalar", "× AVX2"]);
+    for kind in CHOSEN {
+        let look = Look::keyed(16, Width::Four, N, kind);
+        let mut line = |call: &str, k: &str, t: &Three| table.row(row(&[call.to_string(), kind.name().to_string(), k.to_string()], cells(ms, t)));
+        for k in [10, N] {
+            line("search_keyed", &count(k), &look.search_keyed(k));
+        }
+        line("compact", "", &change::compact(16, Width::Four, N, kind));
+        line("from_bytes", "", &change::files(16, Width::Four, N, kind).read);
     }
     table.print();
 }

@@ -21,12 +21,13 @@ mod table;
 
 use std::process::ExitCode;
 
-const GROUPS: [(&str, fn(), &str); 13] = [
+const GROUPS: [(&str, fn(), &str); 14] = [
     ("goals", goals::print, "the goals"),
     ("search-256", groups::search_256, "searches over slots of 256 entries: every number of slots, width, k and kind of keys"),
     ("search-1024", groups::search_1024, "the same of 1,024 entries"),
     ("search-4096", groups::search_4096, "the same of 4,096 entries"),
     ("keyed", groups::keyed, "keyed searches"),
+    ("chosen", groups::chosen, "keyed searches, compaction and reading under chosen keys"),
     ("cascade", groups::cascade, "cascades"),
     ("add", groups::add, "adding"),
     ("compact", groups::compact, "compaction"),

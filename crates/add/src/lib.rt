@@ -5,20 +5,9 @@ ghost use Rattle.index.specs.Step as Step;
 ghost use Rattle.index.specs.Step.{itemOf};
 ghost use Rattle.index.specs.Call.{call};
 ghost use Rattle.index.specs.Answers.{added};
-ghost use Rattle.add.specs.Scanned.{scanEnd};
 use index::Added;
 use index::Index;
-
-// How many slots are scanned for a key: those in use, and none of a record that counts more than an index can have. It is refused by 13, and not after a
-// scan without end.
-fn slots_to_scan(n: usize) -> usize
-    ensures { λ r. ⌜ r ≡ scanEnd n ⌝ }
-{
-    if 65536 < n {
-        return 0;
-    }
-    n
-}
+use place::Adding;
 
 // Appends a slot without a key.
 pub fn add(
@@ -38,9 +27,7 @@ pub fn add(
         ≡ call index (lent (codes .entry) (scales .entry) (keys .entry) (keyed .entry) (held .entry) (alive .entry) (codes2 .entry) (scales2 .entry))
         (Step.add (itemOf (now (vector .entry)))) ⌝ }
 {
-    // the word that stands for no key
-    let key = 0;
-    place::append(
+    place::put(
         index,
         codes,
         scales,
@@ -50,9 +37,7 @@ pub fn add(
         alive,
         codes2,
         scales2,
-        key,
-        false,
-        0,
+        Adding::Unkeyed,
         vector,
     )
 }
@@ -76,24 +61,7 @@ pub fn add_keyed(
         ≡ call index (lent (codes .entry) (scales .entry) (keys .entry) (keyed .entry) (held .entry) (alive .entry) (codes2 .entry) (scales2 .entry))
         (Step.addKeyed key (itemOf (now (vector .entry)))) ⌝ }
 {
-    let n = slots_to_scan(index.n);
-    let slot = held::held_slot(keys, keyed, held, n, key, 0);
-    if slot < n {
-        return place::overwrite(
-            index,
-            codes,
-            scales,
-            keys,
-            keyed,
-            held,
-            alive,
-            codes2,
-            scales2,
-            slot,
-            vector,
-        );
-    }
-    place::append(
+    place::put(
         index,
         codes,
         scales,
@@ -103,9 +71,7 @@ pub fn add_keyed(
         alive,
         codes2,
         scales2,
-        key,
-        true,
-        0,
+        Adding::Keyed(key),
         vector,
     )
 }
@@ -129,8 +95,7 @@ pub fn add_keyed_multi(
         ≡ call index (lent (codes .entry) (scales .entry) (keys .entry) (keyed .entry) (held .entry) (alive .entry) (codes2 .entry) (scales2 .entry))
         (Step.addMulti key (itemOf (now (vector .entry)))) ⌝ }
 {
-    let count = held::held_count(keys, keyed, slots_to_scan(index.n), key);
-    place::append(
+    place::put(
         index,
         codes,
         scales,
@@ -140,9 +105,7 @@ pub fn add_keyed_multi(
         alive,
         codes2,
         scales2,
-        key,
-        true,
-        count as u32,
+        Adding::Multi(key),
         vector,
     )
 }

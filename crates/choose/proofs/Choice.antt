@@ -26,12 +26,20 @@ module _ {X : Type 0} (ord : X → ℕ) where
   ranks-le n t u xs few enough =
       ⊎-elim (λ l. l) (λ h. absurd (omega (arith, count-implied (reaches ord u) (above ord t) xs (λ x e. lt-ltb t (ord x) (omega (arith, leb-true u (ord x) e)))))) (le-or-lt u t)
 
-  pub threshold-ranks : (n : ℕ) (xs : List X) → 0 < n → n ≤ length xs → Ranks ord n (threshold ord n xs) xs
-  threshold-ranks n xs h l =
+  -- the n-th, or where there are fewer the lowest
+  threshold-is : (n : ℕ) (xs : List X) → 0 < n → 0 < length xs → Ranks ord (min n (length xs)) (threshold ord n xs) xs
+  threshold-is n xs h l =
+      let m : ℕ = min n (length xs) in
       let t : ℕ = threshold ord n xs in
-      let j : pred n < length (falling ord xs) = omega (arith, length-falling ord xs) in
-      ranks n t xs (omega (arith, count-falling ord (above ord t) xs, falls-above ord (falling ord xs) (pred n) (falls-falling ord xs) j))
-      (omega (arith, count-falling ord (reaches ord t) xs, falls-reaches ord (falling ord xs) (pred n) (falls-falling ord xs) j))
+      let j : pred m < length (falling ord xs) = omega (arith, length-falling ord xs) in
+      ranks m t xs (omega (arith, count-falling ord (above ord t) xs, falls-above ord (falling ord xs) (pred m) (falls-falling ord xs) j))
+      (omega (arith, count-falling ord (reaches ord t) xs, falls-reaches ord (falling ord xs) (pred m) (falls-falling ord xs) j))
+
+  pub threshold-ranks : (n : ℕ) (xs : List X) → 0 < n → n ≤ length xs → Ranks ord n (threshold ord n xs) xs
+  threshold-ranks n xs h l = subst (λ (m : ℕ). Ranks ord m (threshold ord n xs) xs) {x = min n (length xs)} {y = n} (omega arith) (threshold-is n xs h (omega arith))
+
+  pub threshold-lowest : (n : ℕ) (xs : List X) → 0 < length xs → length xs ≤ n → Ranks ord (length xs) (threshold ord n xs) xs
+  threshold-lowest n xs h l = subst (λ (m : ℕ). Ranks ord m (threshold ord n xs) xs) {x = min n (length xs)} {y = length xs} (omega arith) (threshold-is n xs (omega arith) h)
 
   pub threshold-unique : (n t : ℕ) (xs : List X) → 0 < n → n ≤ length xs → Ranks ord n t xs → threshold ord n xs ≡ t
   threshold-unique n t xs h l r =
@@ -110,11 +118,14 @@ module _ {X : Type 0} (ord : X → ℕ) where
     of y = ord (f y)
 
     threshold-map : (m : ℕ) (ys : List Y) → threshold ord m (map f ys) ≡ threshold of m ys
-    threshold-map m ys = ap (λ (r : List ℕ). getD r (pred m) 0) (ap (map ord) (falling-map ord f ys) ∙ map-map ord f (falling of ys))
+    threshold-map m ys =
+        let r = ap (map ord) (falling-map ord f ys) ∙ map-map ord f (falling of ys) in
+        λ j. getD (r j) (pred (min m (length-map ys f j))) 0
 
     pub choose-map : (k : ℕ) (ys : List Y) → choose ord k (map f ys) ≡ map f (choose of k ys)
     unfolding choose
     choose-map k ys =
         let m : ℕ = wanted of k ys in
         let u : ℕ = threshold of m ys in
-        rw (length-map ys f, threshold-map m ys, stay-map ord f m u ys) (falling-map ord f (stay of m u ys))
+        ap (λ (l : ℕ). let n = max (min k l) 1 in falling ord (stay ord n (threshold ord n (map f ys)) (map f ys))) (length-map ys f)
+        ∙ ap (λ (v : ℕ). falling ord (stay ord m v (map f ys))) (threshold-map m ys) ∙ ap (falling ord) (stay-map ord f m u ys) ∙ falling-map ord f (stay of m u ys)

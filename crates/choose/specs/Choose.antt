@@ -11,9 +11,9 @@ module _ {X : Type 0} (ord : X → ℕ) where
   abbrev pub wanted : ℕ → List X → ℕ
   wanted k xs = max (min k (length xs)) 1
 
-  -- "T is the k-th highest order number of live slots (the lowest, if fewer)": it stands at place n - 1 of the falling list, where n is wanted
+  -- "T is the k-th highest order number of live slots (the lowest, if fewer)": where n is wanted it is the n-th of the falling list, or its last
   abbrev pub threshold : ℕ → List X → ℕ
-  threshold n xs = getD (map ord (falling ord xs)) (pred n) 0
+  threshold n xs = getD (map ord (falling ord xs)) (pred (min n (length xs))) 0
 
   -- what is left without "the lowest-numbered slot at T"
   abbrev pub withoutFirst : ℕ → List X → List X

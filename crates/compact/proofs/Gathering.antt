@@ -1,5 +1,6 @@
 -- Entries and blocks that move down: one more turn of each loop.
 use mathlib.Core.Path.{_≡_, refl, sym, ap, _∙_}
+use mathlib.Core.Bool.{true, false}
 use mathlib.Core.List.{List, [], _∷_, _++_, append-nil}
 use Prim.Native.Nat.{ℕ, suc, _+_, _-_, _*_, _/_, _≤_, _<_}
 use native.Mathlib.Nat.{suc-mul, mul-le-mul-right, div-le-self, div-mul-le-self}
@@ -7,8 +8,7 @@ use native.Mathlib.Numerals.{add-one}
 use native.Mathlib.Omega.{arith}
 use lib.ListN.{length, getD, set, take, drop, length-append, length-drop, length-set}
 use lib.Seq.{paste, paste-zero, paste-suc, drop-paste, length-take-le, getD-drop, drop-append-add, drop-drop}
-use lib.Dec.{ltb}
-use borrow.Author.Tests.{lt-ltb, le-ltb, le-leb}
+use borrow.Author.Tests.{le-leb}
 use Rattle.lists.specs.Lists.{tab, over, splice, joined, below}
 use Rattle.lists.specs.Keep.{keep, count}
 use Rattle.lists.proofs.Laws.{length-tab, length-over, over-more}
@@ -16,6 +16,7 @@ use Rattle.lists.proofs.Keep.{keep-append, length-keep, count-length}
 use Rattle.lists.proofs.Front.{getD-rest, over-append, splice-one, length-splice, each-tab}
 use Rattle.codes.specs.Slots.{blockAt}
 use Rattle.index.proofs.Blocks.{joined-append, length-joined, length-block}
+use Rattle.marks.specs.Live.{liveAt}
 use Rattle.compact.specs.Gathered.{liveSlots, gathered, gatheredBlocks, Downward}
 
 -- ---- entries
@@ -179,7 +180,7 @@ module _ (alive old : List ℕ) (n : ℕ) (room : n ≤ length old) where
 
   pub few-live : (i : ℕ) → length (liveSlots alive i) ≤ i
   unfolding liveSlots
-  few-live i = omega (arith, length-keep (λ j. ltb 0 (getD alive j 0)) (below i), count-length (λ j. ltb 0 (getD alive j 0)) (below i), length-tab (λ j. j) i)
+  few-live i = omega (arith, length-keep (liveAt alive) (below i), count-length (liveAt alive) (below i), length-tab (λ j. j) i)
 
   module _ {i : ℕ} {slots : List ℕ} {many : ℕ} (m : Listed alive n i old slots many) where
     pub listed-length : length slots ≡ length old
@@ -188,19 +189,19 @@ module _ (alive old : List ℕ) (n : ℕ) (room : n ≤ length old) where
     pub listed-few : many ≤ i
     listed-few = omega (arith, m .count, few-live i)
 
-    live-more : liveSlots alive (suc i) ≡ liveSlots alive i ++ keep (λ j. ltb 0 (getD alive j 0)) (i ∷ [])
+    live-more : liveSlots alive (suc i) ≡ liveSlots alive i ++ keep (liveAt alive) (i ∷ [])
     unfolding liveSlots
-    live-more = keep-append (λ j. ltb 0 (getD alive j 0)) (below i) (i ∷ [])
+    live-more = keep-append (liveAt alive) (below i) (i ∷ [])
 
     module _ (l : i < n) where
-      pub listed-same : getD alive i 0 ≤ 0 → Listed alive n (i + 1) old slots many
+      pub listed-same : liveAt alive i ≡ false → Listed alive n (i + 1) old slots many
       listed-same z =
-          let e : liveSlots alive (suc i) ≡ liveSlots alive i = live-more ∙ rw (le-ltb 0 (getD alive i 0) z) (append-nil (liveSlots alive i)) in
+          let e : liveSlots alive (suc i) ≡ liveSlots alive i = live-more ∙ rw z (append-nil (liveSlots alive i)) in
           rw (add-one i) (record { few = omega arith; count = rw e (m .count); written = rw e (m .written) })
 
-      pub listed-more : 0 < getD alive i 0 → Listed alive n (i + 1) old (set slots many i) (many + 1)
+      pub listed-more : liveAt alive i ≡ true → Listed alive n (i + 1) old (set slots many i) (many + 1)
       listed-more z =
-          let e : liveSlots alive (suc i) ≡ liveSlots alive i ++ (i ∷ []) = live-more ∙ rw (lt-ltb 0 (getD alive i 0) z) in
+          let e : liveSlots alive (suc i) ≡ liveSlots alive i ++ (i ∷ []) = live-more ∙ rw z in
           rw (add-one i)
           (record {
             few = omega arith;

@@ -19,6 +19,7 @@ use Rattle.codes.specs.Slots.{blockAt}
 use Rattle.index.specs.Arrays.{Arrays}
 use Rattle.index.specs.State.{keyed, Slot, live, markOf, slotAt, aliveOf, hasKey, keyWord}
 use Rattle.index.proofs.Marks.{mark-live}
+use Rattle.marks.specs.Live.{liveAt}
 use Rattle.compact.specs.Gathered.{liveSlots, gathered, gatheredBlocks, Downward}
 use Rattle.compact.proofs.Gathering.{few-live}
 
@@ -26,7 +27,7 @@ use Rattle.compact.proofs.Gathering.{few-live}
 
 module _ (alive : List ℕ) where
   abbrev marked : ℕ → Bool
-  marked i = ltb 0 (getD alive i 0)
+  marked = liveAt alive
 
   numbers-rise : (n j : ℕ) → j < length (keep marked (below n)) → (j ≤ getD (keep marked (below n)) j 0) × (getD (keep marked (below n)) j 0 < n)
   numbers-rise zero j l = absurd (omega arith)
@@ -124,9 +125,9 @@ module _ (h : Header) (a : Arrays) (n : ℕ) where
   pub kept-map : {B : Type 0} (g : Slot → B) → map g keptSlots ≡ map (λ i. g (slotAt h a i)) nums
   kept-map g = ap (map g) kept-slots ∙ map-map g (slotAt h a) nums
 
-  kept-marks : {B : Type 0} (g : Slot → B) (f : ℕ → B) → ((i : ℕ) → ltb 0 (getD (a .alive) i 0) ≡ true → g (slotAt h a i) ≡ f i) → map g keptSlots ≡ map f nums
+  kept-marks : {B : Type 0} (g : Slot → B) (f : ℕ → B) → ((i : ℕ) → liveAt (a .alive) i ≡ true → g (slotAt h a i) ≡ f i) → map g keptSlots ≡ map f nums
   unfolding liveSlots
-  kept-marks g f e = kept-map g ∙ map-same (λ i. g (slotAt h a i)) f nums (each-kept (λ i. g (slotAt h a i) ≡ f i) (λ i. ltb 0 (getD (a .alive) i 0)) (below n) e)
+  kept-marks g f e = kept-map g ∙ map-same (λ i. g (slotAt h a i)) f nums (each-kept (λ i. g (slotAt h a i) ≡ f i) (liveAt (a .alive)) (below n) e)
 
   pub kept-words : map (λ s. keyWord (s .mark)) keptSlots ≡ map (λ i. getD (a .keys) i 0) nums
   unfolding slotAt

@@ -4,16 +4,17 @@ use mathlib.Core.Bool.{_&&_}
 use mathlib.Core.List.{List}
 use Prim.Native.Nat.{ℕ, _≤_, _<_}
 use lib.ListN.{length, getD}
-use lib.Dec.{leb, ltb}
+use lib.Dec.{leb}
 use Rattle.lists.specs.Lists.{tab, over, joined, below}
 use Rattle.lists.specs.Keep.{keep}
+use Rattle.marks.specs.Live.{liveAt}
 use Rattle.codes.specs.Slots.{blockAt}
 use Rattle.index.specs.declared.Index.{Index}
 use Rattle.index.specs.State.{withCounts}
 
 -- the numbers of the live slots among the first n
 unfoldable pub liveSlots : (alive : List ℕ) → (n : ℕ) → List ℕ
-liveSlots alive n = keep (λ i. ltb 0 (getD alive i 0)) (below n)
+liveSlots alive n = keep (liveAt alive) (below n)
 
 module _ (slots : List ℕ) (n : ℕ) where
   -- at place j, for each j below n, the entry that was at the j-th of the slots

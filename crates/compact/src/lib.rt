@@ -26,7 +26,7 @@ fn live_slots(alive: &[u8], n: usize, slots: &mut [u32]) -> usize
     let mut many: usize = 0;
     let mut i: usize = 0;
     while i < n {
-        if 0 < marks::live_mark(alive, i) {
+        if marks::is_live(alive, i) {
             slots[many] = i as u32;
             many += 1;
         }

@@ -1,26 +1,25 @@
 -- The keyed list by places: one more place adds its key and score just where it is the first of its key.
 use mathlib.Core.Path.{_≡_, refl, sym, ap, _∙_}
 use mathlib.Core.Bool.{Bool, true, false, cond, not, _&&_, _||_, or-false, or-true, true≢false}
-use mathlib.Core.List.{List, [], _∷_, _++_, map}
+use mathlib.Core.List.{List, [], _∷_, _++_}
 use mathlib.Core.Option.{Option, none, some}
-use Prim.Native.Nat.{ℕ, zero, suc, _+_, _≤_, _<_, min}
+use Prim.Native.Nat.{ℕ, zero, suc, _<_, min}
 use native.Mathlib.Nat.{zero-min, min-zero, suc-min-suc, min-le-left, min-le-right}
 use native.Mathlib.Omega.{arith}
-use lib.ListN.{length, getD, length-map, List·getD-map}
+use lib.ListN.{length, getD}
 use lib.Seq.{ext-getD}
 use lib.Dec.{eqb}
 use lib.Ieee.{Float, nan}
 use borrow.Author.Tests.{eqb-true, eq-eqb, ne-eqb}
-use Rattle.lists.specs.Lists.{tab, zipWith, below}
-use Rattle.lists.specs.Keep.{bit, any}
-use Rattle.lists.proofs.Laws.{getD-default, length-tab, getD-tab}
+use Rattle.lists.specs.Lists.{tab, zipWith}
+use Rattle.lists.specs.Keep.{any}
+use Rattle.lists.proofs.Laws.{length-tab, getD-tab}
 use Rattle.lists.proofs.Entries.{getD-zip}
-use Rattle.lists.proofs.Keep.{count-append}
+use Rattle.slot_keys.specs.Has.{keyAt}
 use Rattle.index.specs.Step.{Hit, byKey}
-use Rattle.slot_keys.specs.Has.{slotHas}
-use Rattle.held.specs.Held.{heldCount}
+use Rattle.previous.specs.Previous.{lastBelow, placeWord, placeKeyed, placeHas, previous}
 use Rattle.distinct.specs.Distinct.{hitAt, keyedList}
-use Rattle.distinct.specs.Places.{keysListed, keyedAt, isFirst, placeHit, keyedTo}
+use Rattle.distinct.specs.Places.{placeHit, keyedTo}
 
 -- ---- a list followed by another
 
@@ -77,10 +76,6 @@ any-append p (x ∷ xs) ys = go (p x) (any-append p xs ys)
 
 -- ---- the places
 
-module _ {A B : Type 0} (f : A → B) (xs : List A) (p : ℕ) (here : p < length xs) where
-  pub map-at : (a : A) (b : B) → getD (map f xs) p b ≡ f (getD xs p a)
-  map-at a b = getD-default (map f xs) p b (f a) (rw (length-map xs f) here) ∙ List·getD-map f xs p a
-
 module _ {A B C : Type 0} (f : A → B → C) where
   length-zip-min : (xs : List A) (ys : List B) → length (zipWith f xs ys) ≡ min (length xs) (length ys)
   length-zip-min [] ys = sym (zero-min (length ys))
@@ -96,75 +91,60 @@ module _ {A B C : Type 0} (f : A → B → C) where
       getD-zip f xs ys i a b c (omega (arith, min-le-left (length xs) (length ys))) (omega (arith, min-le-right (length xs) (length ys)))
       ∙ sym (getD-tab (λ j. f (getD xs j a) (getD ys j b)) (min (length xs) (length ys)) i c k))
 
-pub word-at : (keys slots : List ℕ) (p : ℕ) → p < length slots → getD (keysListed keys slots) p 0 ≡ getD keys (getD slots p 0) 0
-unfolding keysListed
-word-at keys slots p here = map-at (λ i. getD keys i 0) slots p here 0 0
-
-pub keyed-at : (keyed : List Bool) (slots : List ℕ) (p : ℕ) → p < length slots → getD (keyedAt keyed slots) p false ≡ getD keyed (getD slots p 0) false
-unfolding keyedAt
-keyed-at keyed slots p here = map-at (λ i. getD keyed i false) slots p here 0 false
-
-pub has-at : (keys : List ℕ) (keyed : List Bool) (slots : List ℕ) (key p : ℕ) → p < length slots →
-    slotHas (keysListed keys slots) (keyedAt keyed slots) key p ≡ slotHas keys keyed key (getD slots p 0)
-has-at keys keyed slots key p here = rw (word-at keys slots p here, keyed-at keyed slots p here)
-
 -- what a place adds to the list
 abbrev pub added : (mark : Bool) → (name : ℕ) → (score : Float) → List (ℕ × Float)
 added b k x = cond b ((k, x) ∷ []) []
 
 module _ (keys : List ℕ) (keyed : List Bool) (slots : List ℕ) (scores : List Float) where
-  abbrev words : List ℕ
-  words = keysListed keys slots
-
-  abbrev on : List Bool
-  on = keyedAt keyed slots
-
   abbrev hit : ℕ → Hit
   hit = placeHit keys keyed slots scores
 
-  hit-has : (k p : ℕ) → p < length slots → hasKey k (hit p) ≡ slotHas words on k p
-  hit-has k p here = rw (has-at keys keyed slots k p here) (go (getD keyed (getD slots p 0) false))
+  abbrev has : (key place : ℕ) → Bool
+  has = placeHas keys keyed slots
+
+  hit-has : (k p : ℕ) → hasKey k (hit p) ≡ has k p
+  unfolding keyAt
+  hit-has k p = go (placeKeyed keyed slots p)
     where
-      go : (b : Bool) → _≡_ {A = Bool} (elim (cond b (some (getD keys (getD slots p 0) 0)) none) [ none ↦ false | some j ↦ eqb j k ]) (b && eqb (getD keys (getD slots p 0) 0) k)
+      go : (b : Bool) → _≡_ {A = Bool} (elim (cond b (some (placeWord keys slots p)) none) [ none ↦ false | some j ↦ eqb j k ]) (b && eqb (placeWord keys slots p) k)
       go true = refl
       go false = refl
 
-  -- a key is among the hits of the first places where it is among the first places
-  any-lower : (k i : ℕ) → i ≤ length slots → any (hasKey k) (tab hit i) ≡ not (eqb (heldCount words on i k) 0)
+  -- a key is among the hits of the first places where one of them has it
+  any-lower : (k i : ℕ) → any (hasKey k) (tab hit i) ≡ not (eqb (lastBelow (has k) i) 0)
   unfolding any
-  any-lower k zero h = refl
-  any-lower k (suc i) h =
-      any-append (hasKey k) (tab hit i) (hit i ∷ [])
-      ∙ rw (any-lower k i (omega arith), hit-has k i (omega arith), count-append (slotHas words on k) (below i) (i ∷ [])) (go (heldCount words on i k) (slotHas words on k i))
+  any-lower k zero = refl
+  any-lower k (suc i) = any-append (hasKey k) (tab hit i) (hit i ∷ []) ∙ rw (any-lower k i, hit-has k i) (go (lastBelow (has k) i) (has k i))
     where
-      go : (n : ℕ) (b : Bool) → (not (eqb n 0) || (b || false)) ≡ not (eqb (n + (bit b + 0)) 0)
-      go zero true = refl
-      go zero false = refl
-      go (suc n) true = rw (ne-eqb (suc n) 0 (λ e. omega arith), ne-eqb (suc n + 1) 0 (λ e. omega arith))
-      go (suc n) false = rw (ne-eqb (suc n) 0 (λ e. omega arith), ne-eqb (suc n + 0) 0 (λ e. omega arith))
+      go : (n : ℕ) (b : Bool) → (not (eqb n 0) || (b || false)) ≡ not (eqb (cond b (suc i) n) 0)
+      go n true = or-true (not (eqb n 0)) ∙ rw (ne-eqb (suc i) 0 (λ e. omega arith))
+      go n false = or-false (not (eqb n 0))
 
   -- a key of the place i was seen where a lower place has it
-  seen-lower : (k i : ℕ) → i ≤ length slots → any (eqb k) (seenAfter [] (tab hit i)) ≡ not (eqb (heldCount words on i k) 0)
+  seen-lower : (k i : ℕ) → any (eqb k) (seenAfter [] (tab hit i)) ≡ not (eqb (lastBelow (has k) i) 0)
   unfolding any
-  seen-lower k i h = seen-has k [] (tab hit i) ∙ any-lower k i h
+  seen-lower k i = seen-has k [] (tab hit i) ∙ any-lower k i
 
-  pub keyed-next : (i : ℕ) → i < length slots →
-      keyedTo keys keyed slots scores (suc i) ≡ keyedTo keys keyed slots scores i ++ added (isFirst words on i) (getD words i 0) (getD scores i nan)
-  unfolding byKey isFirst
-  keyed-next i h =
+  -- the place has a key, and no lower place has it
+  abbrev first : (place : ℕ) → Bool
+  first p = placeKeyed keyed slots p && eqb (previous keys keyed slots p) 0
+
+  pub keyed-next : (i : ℕ) → keyedTo keys keyed slots scores (suc i) ≡ keyedTo keys keyed slots scores i ++ added (first i) (placeWord keys slots i) (getD scores i nan)
+  unfolding byKey previous keyAt
+  keyed-next i =
       by-key-append [] (tab hit i) (hit i ∷ [])
-      ∙ ap (λ (l : List (ℕ × Float)). keyedTo keys keyed slots scores i ++ l)
-      (rw (word-at keys slots i h, keyed-at keyed slots i h) (go (getD keyed (getD slots i 0) false) (getD keys (getD slots i 0) 0)))
+      ∙ ap (λ (l : List (ℕ × Float)). keyedTo keys keyed slots scores i ++ l) (go (placeKeyed keyed slots i))
     where
-      go : (b : Bool) (word : ℕ) →
-          _≡_ {A = List (ℕ × Float)} (elim (cond b (some word) none) [ none ↦ [] | some k ↦ cond (any (eqb k) (seenAfter [] (tab hit i))) [] ((k, getD scores i nan) ∷ []) ])
-          (added (b && eqb (heldCount words on i word) 0) word (getD scores i nan))
-      go true word = rw (seen-lower word i (omega arith)) (inner (eqb (heldCount words on i word) 0))
+      go : (b : Bool) →
+          _≡_ {A = List (ℕ × Float)}
+          (elim (cond b (some (placeWord keys slots i)) none) [ none ↦ [] | some k ↦ cond (any (eqb k) (seenAfter [] (tab hit i))) [] ((k, getD scores i nan) ∷ []) ])
+          (added (b && eqb (cond b (lastBelow (has (placeWord keys slots i)) i) 0) 0) (placeWord keys slots i) (getD scores i nan))
+      go true = rw (seen-lower (placeWord keys slots i) i) (inner (eqb (lastBelow (has (placeWord keys slots i)) i) 0))
         where
-          inner : (c : Bool) → _≡_ {A = List (ℕ × Float)} (cond (not c) [] ((word, getD scores i nan) ∷ [])) (added c word (getD scores i nan))
+          inner : (c : Bool) → _≡_ {A = List (ℕ × Float)} (cond (not c) [] ((placeWord keys slots i, getD scores i nan) ∷ [])) (added c (placeWord keys slots i) (getD scores i nan))
           inner true = refl
           inner false = refl
-      go false word = refl
+      go false = refl
 
   -- the keyed list is that of as many places as there are slots and scores
   pub keyed-all : keyedList keys keyed slots scores ≡ keyedTo keys keyed slots scores (min (length slots) (length scores))

@@ -1,4 +1,3 @@
 -- Laws of the keyed list.
 pub mod KeyedList
-mod Places
 mod Writing

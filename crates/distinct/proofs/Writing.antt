@@ -1,64 +1,75 @@
--- The marked places written one after the other, which gives the keyed list where the first places of their keys are marked.
+-- The places that are the first of their keys, written one after the other: that is the keyed list.
 use mathlib.Core.Path.{_≡_, refl, sym, ap, _∙_}
 use mathlib.Core.Bool.{Bool, true, false, cond, and-false}
 use mathlib.Core.List.{List, [], _∷_, _++_, map, map-append, append-nil}
-use Prim.Native.Nat.{ℕ, zero, suc, _+_, _≤_, _<_, min}
-use native.Mathlib.Nat.{add-zero, le-min, min-le-left, min-le-right}
+use Prim.Native.Nat.{ℕ, zero, suc, _+_, _-_, _≤_, _<_, min}
+use native.Mathlib.Nat.{add-zero, sub-zero, le-min, min-le-left, min-le-right}
 use native.Mathlib.Numerals.{add-one}
 use native.Mathlib.Omega.{arith}
-use lib.ListN.{length, getD, set, length-append, length-map}
+use lib.ListN.{length, take, getD, set, length-append, length-map}
+use lib.Seq.{length-take-le, getD-take}
 use lib.Dec.{leb}
 use lib.Ieee.{Float, nan}
 use borrow.Author.Tests.{le-leb, lt-leb}
-use Rattle.lists.specs.Lists.{over, below}
+use Rattle.lists.specs.Lists.{tab, over, below}
 use Rattle.lists.specs.Keep.{bit, keep}
-use Rattle.lists.proofs.Laws.{length-tab, length-over}
+use Rattle.lists.proofs.Laws.{length-tab, getD-tab, length-over}
 use Rattle.lists.proofs.Keep.{keep-append, length-keep, count-length}
-use Rattle.lists.proofs.Front.{over-append, splice-one}
+use Rattle.lists.proofs.Front.{getD-front, over-append, splice-one}
 use Rattle.index.specs.Step.{byKey}
+use Rattle.previous.specs.Previous.{placeWord, previous, linked}
+use Rattle.previous.proofs.Previous.{linked-all, previous-same}
 use Rattle.distinct.specs.Distinct.{keyedShown}
-use Rattle.distinct.specs.Places.{keysListed, keyedAt, MarksFirsts, markedList, keyedTo, Listed, PutsHit}
+use Rattle.distinct.specs.Places.{firstBy, firstsList, keyedTo, Listed, PutsHit}
 use Rattle.distinct.proofs.KeyedList.{added, keyed-next, keyed-all}
 
--- ---- the marked places
+-- ---- the places that are the first of their keys
 
-module _ (words : List ℕ) (scores : List Float) (firsts : List Bool) where
-  pub marked-next : (i : ℕ) →
-      markedList words scores firsts (suc i) ≡ markedList words scores firsts i ++ added (getD firsts i false) (getD words i 0) (getD scores i nan)
-  unfolding markedList
-  marked-next i =
-      ap (map entry) (keep-append mark (below i) (i ∷ [])) ∙ map-append entry (keep mark (below i)) (keep mark (i ∷ []))
-      ∙ ap (λ (l : List (ℕ × Float)). markedList words scores firsts i ++ l) (go (getD firsts i false))
+module _ (keys : List ℕ) (keyed : List Bool) (slots : List ℕ) (scores : List Float) (before : List ℕ) where
+  abbrev first : (place : ℕ) → Bool
+  first = firstBy keyed slots before
+
+  abbrev listed : (place : ℕ) → ℕ × Float
+  listed p = (placeWord keys slots p, getD scores p nan)
+
+  pub firsts-next : (i : ℕ) →
+      firstsList keys keyed slots scores before (suc i) ≡ firstsList keys keyed slots scores before i ++ added (first i) (placeWord keys slots i) (getD scores i nan)
+  unfolding firstsList
+  firsts-next i =
+      ap (map listed) (keep-append first (below i) (i ∷ [])) ∙ map-append listed (keep first (below i)) (keep first (i ∷ []))
+      ∙ ap (λ (l : List (ℕ × Float)). firstsList keys keyed slots scores before i ++ l) (go (first i))
     where
-      mark : ℕ → Bool
-      mark p = getD firsts p false
-
-      entry : ℕ → ℕ × Float
-      entry p = (getD words p 0, getD scores p nan)
-
-      go : (b : Bool) → map entry (cond b (i ∷ []) []) ≡ added b (getD words i 0) (getD scores i nan)
+      go : (b : Bool) → map listed (cond b (i ∷ []) []) ≡ added b (placeWord keys slots i) (getD scores i nan)
       go true = refl
       go false = refl
 
-  pub marked-few : (i : ℕ) → length (markedList words scores firsts i) ≤ i
-  unfolding markedList
-  marked-few i =
+  pub firsts-few : (i : ℕ) → length (firstsList keys keyed slots scores before i) ≤ i
+  unfolding firstsList
+  firsts-few i =
       omega (
         arith,
-        length-map {B = ℕ × Float} (keep (λ p. getD firsts p false) (below i)) (λ p. (getD words p 0, getD scores p nan)),
-        length-keep (λ p. getD firsts p false) (below i),
-        count-length (λ p. getD firsts p false) (below i),
+        length-map {B = ℕ × Float} (keep first (below i)) listed,
+        length-keep first (below i),
+        count-length first (below i),
         length-tab (λ (j : ℕ). j) i,
       )
 
-pub marked-keyed : (keys : List ℕ) (keyed : List Bool) (slots : List ℕ) (scores : List Float) (firsts : List Bool) (n : ℕ) → n ≤ length slots →
-    MarksFirsts (keysListed keys slots) (keyedAt keyed slots) firsts n → markedList (keysListed keys slots) scores firsts n ≡ keyedTo keys keyed slots scores n
-unfolding byKey markedList
-marked-keyed keys keyed slots scores firsts zero h m = refl
-marked-keyed keys keyed slots scores firsts (suc n) h m =
-    marked-next (keysListed keys slots) scores firsts n
-    ∙ rw (marked-keyed keys keyed slots scores firsts n (omega arith) (λ j l. m j (omega arith)), m n (omega arith))
-    (sym (keyed-next keys keyed slots scores n (omega arith)))
+  -- by the entries of the first n places
+  firsts-keyed : (n : ℕ) → ((p : ℕ) → p < n → getD before p 0 ≡ previous keys keyed slots p) → firstsList keys keyed slots scores before n ≡ keyedTo keys keyed slots scores n
+  unfolding byKey firstsList
+  firsts-keyed zero h = refl
+  firsts-keyed (suc n) h = firsts-next n ∙ rw (firsts-keyed n (λ p l. h p (omega arith)), h n (omega arith)) (sym (keyed-next keys keyed slots scores n))
+
+pub firsts-linked : (keys : List ℕ) (keyed : List Bool) (slots : List ℕ) (scores : List Float) (n : ℕ) (before₀ before : List ℕ) → n ≤ length slots → n ≤ 65536 → n ≤ length before₀ →
+    before ≡ linked keys keyed (take (n - 0) slots) before₀ → firstsList keys keyed slots scores before n ≡ keyedTo keys keyed slots scores n
+firsts-linked keys keyed slots scores n before₀ before h few room e =
+    let l : length (take n slots) ≡ n = length-take-le n slots h in
+    firsts-keyed keys keyed slots scores before n
+    (λ p k.
+    rw (e, sub-zero n, linked-all keys keyed (take n slots) before₀ (omega arith) (omega arith), l)
+    (getD-front (tab (previous keys keyed (take n slots)) n) before₀ p 0 (rw (length-tab (previous keys keyed (take n slots)) n) k)
+    ∙ getD-tab (previous keys keyed (take n slots)) n p 0 k
+    ∙ previous-same keys keyed (take n slots) slots p (λ i m. getD-take n slots i 0 (omega arith))))
 
 -- ---- one more entry in the results
 
@@ -87,33 +98,38 @@ module _ (mark : Bool) (name : ℕ) (score : Float) (many : ℕ) (names : List �
   put-none e = record { many-is = rw e (sym (add-zero many)); names-are = rw e; scores-are = rw e }
 
 -- the first i of n places are written
-pub record Writing (words : List ℕ) (hits : List Float) (firsts : List Bool) (n : ℕ) (names₀ : List ℕ) (scores₀ : List Float)
+pub record Writing (keys : List ℕ) (keyed : List Bool) (slots : List ℕ) (hits : List Float) (before : List ℕ) (n : ℕ) (names₀ : List ℕ) (scores₀ : List Float)
     (many : ℕ) (names : List ℕ) (scores : List Float) (i : ℕ) : Type 0 where
   pub few : i ≤ n
-  pub listed : Listed (markedList words hits firsts i) names₀ scores₀ many names scores
+  pub listed : Listed (firstsList keys keyed slots hits before i) names₀ scores₀ many names scores
   pub names-same : length names ≡ length names₀
   pub scores-same : length scores ≡ length scores₀
 
-module _ (words : List ℕ) (hits : List Float) (firsts : List Bool) (n : ℕ) (names₀ : List ℕ) (scores₀ : List Float) where
-  pub writing-none : Writing words hits firsts n names₀ scores₀ 0 names₀ scores₀ 0
-  unfolding over markedList
+module _ (keys : List ℕ) (keyed : List Bool) (slots : List ℕ) (hits : List Float) (before : List ℕ) (n : ℕ) (names₀ : List ℕ) (scores₀ : List Float) where
+  pub writing-none : Writing keys keyed slots hits before n names₀ scores₀ 0 names₀ scores₀ 0
+  unfolding over firstsList
   writing-none = record { few = omega arith; listed = record { many-is = refl; names-are = refl; scores-are = refl }; names-same = refl; scores-same = refl }
 
-  module _ {many : ℕ} {names : List ℕ} {scores : List Float} {i : ℕ} (m : Writing words hits firsts n names₀ scores₀ many names scores i) where
+  module _ {many : ℕ} {names : List ℕ} {scores : List Float} {i : ℕ} (m : Writing keys keyed slots hits before n names₀ scores₀ many names scores i) where
     pub writing-few : many ≤ i
-    writing-few = omega (arith, m .listed .many-is, marked-few words hits firsts i)
+    writing-few = omega (arith, m .listed .many-is, firsts-few keys keyed slots hits before i)
 
     module _ (l : i < n) (h : n ≤ length names₀) (k : n ≤ length scores₀) where
       abbrev list : List (ℕ × Float)
-      list = markedList words hits firsts i
+      list = firstsList keys keyed slots hits before i
 
-      listed-more : (r : ℕ) (names′ : List ℕ) (scores′ : List Float) → PutsHit (getD firsts i false) (getD words i 0) (getD hits i nan) many names scores r names′ scores′ →
-          Listed (list ++ added (getD firsts i false) (getD words i 0) (getD hits i nan)) names₀ scores₀ r names′ scores′
+      abbrev mark : Bool
+      mark = firstBy keyed slots before i
+
+      abbrev name : ℕ
+      name = placeWord keys slots i
+
+      abbrev score : Float
+      score = getD hits i nan
+
+      listed-more : (r : ℕ) (names′ : List ℕ) (scores′ : List Float) → PutsHit mark name score many names scores r names′ scores′ → Listed (list ++ added mark name score) names₀ scores₀ r names′ scores′
       listed-more r names′ scores′ p =
-          let mark = getD firsts i false in
-          let name = getD words i 0 in
-          let score = getD hits i nan in
-          let room = marked-few words hits firsts i in
+          let room = firsts-few keys keyed slots hits before i in
           let e = m .listed .many-is in
           record {
             many-is = omega (arith, p .many-is, e, length-append list (added mark name score), added-length mark name score);
@@ -121,17 +137,17 @@ module _ (words : List ℕ) (hits : List Float) (firsts : List Bool) (n : ℕ) (
             scores-are = p .scores-are ∙ rw e (over-added (λ e. e .1) list mark name score scores₀ scores (omega (arith, room)) (m .listed .scores-are));
           }
 
-      pub writing-more : (r : ℕ) (names′ : List ℕ) (scores′ : List Float) → PutsHit (getD firsts i false) (getD words i 0) (getD hits i nan) many names scores r names′ scores′ →
-          length names′ ≡ length names → length scores′ ≡ length scores → Writing words hits firsts n names₀ scores₀ r names′ scores′ (i + 1)
+      pub writing-more : (r : ℕ) (names′ : List ℕ) (scores′ : List Float) → PutsHit mark name score many names scores r names′ scores′ →
+          length names′ ≡ length names → length scores′ ≡ length scores → Writing keys keyed slots hits before n names₀ scores₀ r names′ scores′ (i + 1)
       writing-more r names′ scores′ p f g =
           record {
             few = omega arith;
-            listed = rw (add-one i, marked-next words hits firsts i) (listed-more r names′ scores′ p);
+            listed = rw (add-one i, firsts-next keys keyed slots hits before i) (listed-more r names′ scores′ p);
             names-same = f ∙ m .names-same;
             scores-same = g ∙ m .scores-same;
           }
 
-    pub writing-all : n ≤ i → Listed (markedList words hits firsts n) names₀ scores₀ many names scores
+    pub writing-all : n ≤ i → Listed (firstsList keys keyed slots hits before n) names₀ scores₀ many names scores
     writing-all l = let e : i ≡ n = omega (arith, m .few) in rw e at (m .listed)
 
 -- ---- the whole list

@@ -1,17 +1,17 @@
 -- A keyed list (document 01, store.rs: "`search_keyed` drops unkeyed hits and repeats").
-use mathlib.Core.Bool.{Bool, false, cond, _&&_}
+use mathlib.Core.Bool.{Bool, cond, _&&_}
 use mathlib.Core.List.{List, []}
-use mathlib.Core.Option.{none, some}
 use Prim.Native.Nat.{ℕ, min}
-use lib.ListN.{length, getD}
+use lib.ListN.{length}
 use lib.Dec.{leb}
 use lib.Ieee.{Float}
 use Rattle.lists.specs.Lists.{zipWith}
+use Rattle.slot_keys.specs.Has.{keyAt}
 use Rattle.index.specs.Step.{Hit, byKey}
 
 -- a listed slot with the key that the arrays have for it
 abbrev pub hitAt : (keys : List ℕ) → (keyed : List Bool) → ℕ → Float → Hit
-hitAt keys keyed i x = record { number = i; key = cond (getD keyed i false) (some (getD keys i 0)) none; score = x }
+hitAt keys keyed i x = record { number = i; key = keyAt keys keyed i; score = x }
 
 -- the keyed list of listed slots and their scores
 unfoldable pub keyedList : (keys : List ℕ) → (keyed : List Bool) → (slots : List ℕ) → (scores : List Float) → List (ℕ × Float)

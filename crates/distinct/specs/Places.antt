@@ -1,35 +1,24 @@
--- The places of the list: the key that stands at each, and which of them are the first of their key.
+-- The places of the list that are the first of their keys, and what is written of them.
 use mathlib.Core.Path.{_≡_}
-use mathlib.Core.Bool.{Bool, false, cond, _&&_}
+use mathlib.Core.Bool.{Bool, cond, _&&_}
 use mathlib.Core.List.{List, [], map}
-use Prim.Native.Nat.{ℕ, _+_, _<_}
+use Prim.Native.Nat.{ℕ, _+_}
 use lib.ListN.{length, getD, set}
 use lib.Dec.{eqb}
 use lib.Ieee.{Float, nan}
 use Rattle.lists.specs.Lists.{tab, over, below}
 use Rattle.lists.specs.Keep.{bit, keep}
-use Rattle.held.specs.Held.{heldCount}
 use Rattle.index.specs.Step.{Hit, byKey}
+use Rattle.previous.specs.Previous.{placeWord, placeKeyed}
 use Rattle.distinct.specs.Distinct.{hitAt}
 
--- what the arrays have at each listed slot: a list by places, so that the chains of the crate chains are of places
-unfoldable pub keysListed : (keys slots : List ℕ) → List ℕ
-keysListed keys slots = map (λ i. getD keys i 0) slots
+-- the place has a key, and no entry of a lower place with it
+abbrev pub firstBy : (keyed : List Bool) → (slots before : List ℕ) → (place : ℕ) → Bool
+firstBy keyed slots before p = placeKeyed keyed slots p && eqb (getD before p 0) 0
 
-unfoldable pub keyedAt : (keyed : List Bool) → (slots : List ℕ) → List Bool
-keyedAt keyed slots = map (λ i. getD keyed i false) slots
-
--- the place has a key that no lower place has
-unfoldable pub isFirst : (words : List ℕ) → (on : List Bool) → (place : ℕ) → Bool
-isFirst words on p = getD on p false && eqb (heldCount words on p (getD words p 0)) 0
-
--- the first n places are marked where they are the first of their key
-abbrev pub MarksFirsts : (words : List ℕ) → (on : List Bool) → (firsts : List Bool) → (n : ℕ) → Type 0
-MarksFirsts words on firsts n = (j : ℕ) → j < n → getD firsts j false ≡ isFirst words on j
-
--- the keys and scores of the marked places
-unfoldable pub markedList : (words : List ℕ) → (scores : List Float) → (firsts : List Bool) → (n : ℕ) → List (ℕ × Float)
-markedList words scores firsts n = map (λ p. (getD words p 0, getD scores p nan)) (keep (λ p. getD firsts p false) (below n))
+-- the keys and scores of such places among the first n
+unfoldable pub firstsList : (keys : List ℕ) → (keyed : List Bool) → (slots : List ℕ) → (scores : List Float) → (before : List ℕ) → (n : ℕ) → List (ℕ × Float)
+firstsList keys keyed slots scores before n = map (λ p. (placeWord keys slots p, getD scores p nan)) (keep (firstBy keyed slots before) (below n))
 
 module _ (keys : List ℕ) (keyed : List Bool) (slots : List ℕ) (scores : List Float) where
   abbrev pub placeHit : (place : ℕ) → Hit

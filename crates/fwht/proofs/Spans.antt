@@ -9,7 +9,7 @@ use borrow.Author.Tests.{eq-eqb, ne-eqb}
 use lib.ListN.{length}
 use lib.Pow.{pow-pos, pow-add, pow-mono}
 use Rattle.padding.specs.Padded.{exponent, isPowerOfTwo}
-use Rattle.fwht.specs.Fwht.{pass, passes, fwht}
+use Rattle.fwht.specs.Fwht.{passes, fwht}
 use Rattle.fwht.specs.InPlace.{Blocks, Spanned, spans}
 use Rattle.padding.proofs.Powers.{exponent-pow, pow-reflects-lt}
 use Rattle.fwht.proofs.Passes.{pass-length}

@@ -65,3 +65,9 @@ shift-of t f T p h =
     let l : j < t = lt-of-not-le (λ (g : t ≤ j). not-le-of-lt (lt-of-le-of-lt (top .2) h) (pow-mono g)) in
     let e : leadingZeros 32 f + suc j ≡ 32 = top .1 in
     (omega arith, shift-at t f j (leadingZeros 32 f - (31 - t)) (top .2) (top .3) l (omega arith))
+
+-- so the shift is the zeros among the t digits above the top bit, plus one
+pub zeros-plus-one : (t f : ℕ) → t < 32 → 0 < f → f < 2 ^ t → (32 - t ≤ leadingZeros 32 f) × Shift t f (leadingZeros 32 f - (32 - t) + 1)
+zeros-plus-one t f T p h =
+    let s = shift-of t f T p h .1 in
+    (omega (arith, s .least), subst (Shift t f) {x = leadingZeros 32 f - (31 - t)} {y = leadingZeros 32 f - (32 - t) + 1} (omega (arith, s .least)) s)

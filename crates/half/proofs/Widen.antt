@@ -13,7 +13,7 @@ use borrow.Author.Tests.{lt-ltb, le-ltb}
 use Rattle.half.specs.Binary.{infinity, magnitude, unsigned}
 use Rattle.half.specs.Nearest.{value}
 use Rattle.half.specs.Half.{widened, widenedUnsigned, Widened}
-use Rattle.half.proofs.Digits.{weight, value-unsigned, sign-of-sum, unsigned-of-sum, Shift, shift-of}
+use Rattle.half.proofs.Digits.{weight, value-unsigned, sign-of-sum, unsigned-of-sum, Shift, zeros-plus-one}
 use Rattle.half.proofs.NearestLaw.{value-at}
 use Rattle.half.proofs.Rounding.{near-held}
 
@@ -56,8 +56,8 @@ subnormal-at f s g =
     }
 
 pub subnormal : (f : ℕ) → 0 < f → f < 1024
-    → let s = leadingZeros 32 f - 21 in Reads 0 f ((113 - s) * 0x80_0000 + f * 2 ^ s % 0x1_0000_0000 % 1024 * 0x2000)
-subnormal f p h = subnormal-at f (leadingZeros 32 f - 21) (shift-of 10 f (lit< tt) p h .1)
+    → let s = leadingZeros 32 f - 22 + 1 in Reads 0 f ((113 - s) * 0x80_0000 + f * 2 ^ s % 0x1_0000_0000 % 1024 * 0x2000)
+subnormal f p h = subnormal-at f (leadingZeros 32 f - 22 + 1) (zeros-plus-one 10 f (lit< tt) p h .1)
 
 -- there is one for every finite half
 reads : (x f : ℕ) → x < 31 → f < 1024 → (c : ℕ) × Reads x f c

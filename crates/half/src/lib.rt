@@ -39,8 +39,10 @@ pub fn f16_bits_to_f32(h: u16) -> u32
     if frac == 0 {
         return sign;
     }
-    // A subnormal half: the shift brings the highest set bit of the fraction to bit 10, the place of a leading one, which binary32 does not store.
-    let shift = u32::leading_zeros(frac) - 21;
+    // A subnormal half. Of the 32 digits the ten last are the fraction's; the zeros among these above the highest that is set, plus one, shift this one to
+    // bit 10, the place of a leading one, which binary32 does not store.
+    let zeros = u32::leading_zeros(frac) - 22;
+    let shift = zeros + 1;
     let rest = (frac << shift) & 0x3FF;
     sign | ((113 - shift) << 23) | (rest << 13)
 }

@@ -3,16 +3,17 @@ use mathlib.Core.Path.{_≡_, sym, ap, _∙_}
 use mathlib.Core.Bool.{Bool, true, false}
 use mathlib.Core.Logic.{⊎-elim}
 use mathlib.Core.List.{List, [], _∷_, _++_}
-use Prim.Native.Nat.{ℕ, zero, suc, _+_, _≤_, _<_}
+use Prim.Native.Nat.{ℕ, zero, suc, _+_, min, _≤_, _<_}
 use native.Mathlib.Nat.{eq-or-lt-of-le, le-of-suc-le-suc, le-antisymm}
 use native.Mathlib.Numerals.{add-one}
 use native.Mathlib.Omega.{arith}
-use lib.ListN.{getD, take}
+use native.Mathlib.Decide.{decLt}
+use lib.ListN.{length, getD, take, List·getD-eq-default}
 use lib.Seq.{getD-take}
 use Rattle.lists.specs.Keep.{bit, keep, count}
 use Rattle.lists.proofs.Laws.{length-tab}
 use Rattle.lists.proofs.Keep.{count-append, count-length, count-same, keep-append, keep-same}
-use Rattle.lists.proofs.Front.{each-tab}
+use Rattle.lists.proofs.Front.{each-tab, keep-past, count-past}
 use Rattle.slot_keys.specs.Has.{slotHas}
 use Rattle.held.specs.Held.{heldCount, slotHolds, heldSlot}
 use Rattle.lists.specs.Lists.{below}
@@ -47,6 +48,31 @@ module _ (p : ℕ → Bool) where
 
   pub none-is : (i n : ℕ) → i ≤ n → n ≤ i → keep p (below i) ≡ [] → getD (keep p (below n)) 0 n ≡ n
   none-is i n l m e = rw (rw (le-antisymm l m) at e)
+
+-- ---- past the end of `keyed` no slot has a key
+
+module _ (keys : List ℕ) (keyed : List Bool) (key i n : ℕ) (end : length keyed ≤ i) (l : i ≤ n) where
+  past-has : (j : ℕ) → i ≤ j → slotHas keys keyed key j ≡ false
+  past-has j m =
+      let beyond : length keyed ≤ j = omega (arith, end, m) in
+      rw (List·getD-eq-default keyed false beyond)
+
+  count-end : heldCount keys keyed i key ≡ heldCount keys keyed n key
+  count-end = sym (count-past (slotHas keys keyed key) i past-has n l)
+
+  module _ (held : List ℕ) (position : ℕ) where
+    past-holds : (j : ℕ) → i ≤ j → slotHolds keys keyed held key position j ≡ false
+    past-holds j m = rw (past-has j m)
+
+    pub slot-end : keep (slotHolds keys keyed held key position) (below i) ≡ [] → n ≡ heldSlot keys keyed held n key position
+    slot-end e = sym (ap (λ (is : List ℕ). getD is 0 n) (keep-past (slotHolds keys keyed held key position) i past-holds n l ∙ e))
+
+pub count-within : (keys : List ℕ) (keyed : List Bool) (key n end : ℕ) → end ≡ min n (length keyed) → heldCount keys keyed end key ≡ heldCount keys keyed n key
+count-within keys keyed key n end e =
+    elim (decLt (length keyed) n) [
+      | yes l ↦ count-end keys keyed key end n (omega (arith, e, l)) (omega (arith, e, l))
+      | no l ↦ let same : end ≡ n = omega (arith, e, l) in ap (λ (m : ℕ). heldCount keys keyed m key) same
+    ]
 
 -- ---- two tests that agree below n
 

@@ -21,7 +21,7 @@ use Rattle.index.specs.Step.{liveFrom, numberWhere, holds, holdsAt, heldBy, isH
 use Rattle.index.specs.Sound.{marks}
 use Rattle.index.proofs.Fits.{fitting, fit-sound}
 use Rattle.positions.proofs.Slots.{count-at, once-count}
-use Rattle.slot_keys.specs.Has.{slotHas}
+use Rattle.slot_keys.specs.Has.{keyAt, slotHas}
 use Rattle.held.specs.Held.{heldCount, slotHolds, heldSlot}
 use Rattle.held.proofs.Live.{tab-in, tab-past, firstIn, live-count, live-first}
 
@@ -53,6 +53,10 @@ module _ (n : ℕ) where
   first-none : (is : List ℕ) → Each (λ i. i < n) is → n ≤ getD is 0 n → firstIn is ≡ none
   first-none [] h l = refl
   first-none (i ∷ is) h l = absurd (omega (arith, h .0))
+
+  first-end : (is : List ℕ) → Each (λ i. i < n) is → n ≤ getD is 0 n → getD is 0 n ≡ n
+  first-end [] h l = refl
+  first-end (i ∷ is) h l = absurd (omega (arith, h .0))
 
   first-low : (is : List ℕ) → Each (λ i. i < n) is → 0 < length is → getD is 0 n < n
   first-low [] h l = absurd (omega arith)
@@ -109,7 +113,8 @@ module _ (x : Index) (a : Arrays) (e : fit x a ≡ true) where
     unfolding stateOf
     slot-in = tab-in (slotAt (headerOf x) a) (x .n) i l
 
-    pub key-in : keyAnswer (getElem? (stateOf x a .slots) i) ≡ cond (getD (a .keyed) i false) (some (getD (a .keys) i 0)) none
+    pub key-in : keyAnswer (getElem? (stateOf x a .slots) i) ≡ keyAt (a .keys) (a .keyed) i
+    unfolding keyAt
     key-in = ap keyAnswer slot-in ∙ mark-part keyOfMark none (λ u. refl) (λ u. refl)
 
     pub position-in : (j : ℕ) → positionOf j (getElem? (stateOf x a .slots) i) ≡ cond (slotHas (a .keys) (a .keyed) j i) (some (getD (a .held) i 0)) none
@@ -182,6 +187,9 @@ module _ (x : Index) (a : Arrays) (e : fit x a ≡ true) where
 
     pub slot-missing : x .n ≤ found → slotHolding j p (liveFrom 0 (stateOf x a .slots)) ≡ none
     slot-missing l = holding ∙ first-none (x .n) kept all-low l
+
+    pub missing-end : x .n ≤ found → found ≡ x .n
+    missing-end = first-end (x .n) kept all-low
 
     pub found-holds : found < x .n → passes found ≡ true
     found-holds = first-passes (x .n) (λ i. passes i ≡ true) kept (each-kept (λ i. passes i ≡ true) passes (below (x .n)) (λ i t. t))

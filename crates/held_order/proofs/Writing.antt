@@ -1,26 +1,27 @@
 -- The positions that restoring held order writes.
-use mathlib.Core.Path.{_≡_}
-use mathlib.Core.Bool.{Bool, false, and-false}
-use mathlib.Core.List.{List}
-use Prim.Native.Nat.{ℕ, _≤_, _<_}
-use native.Mathlib.Omega.{arith}
-use lib.ListN.{length, getD}
+use mathlib.Core.Path.{_≡_, sym, _∙_}
+use mathlib.Core.Bool.{Bool, and-false}
+use mathlib.Core.List.{List, _++_}
+use Prim.Native.Nat.{ℕ, _-_, _≤_, _<_}
+use native.Mathlib.Nat.{sub-zero}
+use lib.ListN.{length, take, drop}
+use lib.Seq.{length-take-le}
 use lib.Dec.{leb}
 use borrow.Author.Tests.{le-leb, lt-leb}
-use Rattle.lists.specs.Lists.{tab, over, below}
+use Rattle.lists.specs.Lists.{tab, over}
 use Rattle.lists.proofs.Laws.{length-tab}
-use Rattle.lists.proofs.Keep.{either, count-length}
-use Rattle.slot_keys.specs.Has.{slotHas}
 use Rattle.held_order.specs.Restored.{risingPosition, restored}
-
--- a position is below the number of lower slots
-pub rising-below : (keys : List ℕ) (keyed : List Bool) (i : ℕ) → risingPosition keys keyed i ≤ i
-rising-below keys keyed i = either (λ (p : ℕ). p ≤ i) (getD keyed i false) (omega (arith, count-length (slotHas keys keyed (getD keys i 0)) (below i), length-tab (λ (j : ℕ). j) i)) (omega arith)
 
 -- where there are places for so many slots
 pub in-place : (keys : List ℕ) (keyed : List Bool) (n : ℕ) (held : List ℕ) → n ≤ 65536 → n ≤ length held → restored keys keyed n held ≡ over (tab (risingPosition keys keyed) n) held
 unfolding restored
 in-place keys keyed n held few l = rw (le-leb n 65536 few, le-leb n (length held) l)
+
+-- the positions, put back where they were lent
+pub in-part : (keys : List ℕ) (keyed : List Bool) (n : ℕ) (held : List ℕ) → n ≤ 65536 → n ≤ length held → {part : List ℕ} →
+    part ≡ tab (risingPosition keys keyed) (length (take (n - 0) held)) → part ++ drop (n - 0) held ≡ restored keys keyed n held
+unfolding over
+in-part keys keyed n held few l e = rw (e, sub-zero n, length-take-le n held l) (sym (in-place keys keyed n held few l ∙ rw (length-tab (risingPosition keys keyed) n)))
 
 pub too-many : (keys : List ℕ) (keyed : List Bool) (n : ℕ) (held : List ℕ) → 65536 < n → restored keys keyed n held ≡ held
 unfolding restored

@@ -1,11 +1,9 @@
-// Rising held order (document 01, compaction): each key's slots hold 0, 1, 2 in slot order. The last lower slot with a slot's key is found by chains of the keyed
-// slots, so that time grows with the slots and not with their square, unless keys are chosen to share a chain.
+// Rising held order (document 01, compaction): each key's slots hold 0, 1, 2 in slot order. A slot holds the position after that of the last lower slot with
+// its key, by the entries of the crate previous.
 ghost use mathlib.Core.Path.{_≡_};
-ghost use mathlib.Core.Bool.{true, false};
 ghost use Prim.Native.Nat.{ℕ, suc, _≤_, _<_};
-ghost use lib.ListN.{length, getD, set};
-ghost use Rattle.lists.specs.Lists.{tab, over};
-ghost use Rattle.chains.specs.Chains.{chainOf, Latest, LastOf, Linked, Chains};
+ghost use lib.ListN.{length, getD};
+ghost use Rattle.lists.specs.Lists.{tab, below};
 ghost use Rattle.held_order.specs.Restored.{risingPosition, restored};
 ghost use Rattle.held_order.specs.Placed.{afterEntry, Placed};
 
@@ -15,23 +13,16 @@ fn wide(x: u32) -> usize
     x as usize
 }
 
-// ---- chains
-
-// The entry of the last slot below `slot` that has its key; 0 where there is none. `first` is the last entry of its chain.
-fn find(keys: &[u64], keyed: &[bool], before: &[u32], slot: usize, first: usize) -> usize
-    requires { ⌜ (slot ≤ length (now before)) × Linked (now keys) (now keyed) (now before) slot ⌝ }
-    requires { ⌜ Latest (now keys) (now keyed) (chainOf (getD (now keys) slot 0)) slot first ⌝ }
-    ensures { λ r. ⌜ LastOf (now (keys .entry)) (now (keyed .entry)) (getD (now (keys .entry)) slot 0) slot r ⌝ }
+// The slots themselves, as a list.
+fn number(held: &mut [u32])
+    requires { ⌜ length (now held) ≤ 65536 ⌝ }
+    ensures { λ _. ⌜ now (held .exit) ≡ below (length (now (held .entry))) ⌝ }
 {
-    let key = slot_keys::key_word(keys, slot);
-    let mut entry = first;
-    while 0 < entry {
-        if slot_keys::has_key(keys, keyed, entry - 1, key) {
-            return entry;
-        }
-        entry = wide(before[entry - 1]);
+    let mut i: usize = 0;
+    while i < held.len() {
+        held[i] = i as u32;
+        i += 1;
     }
-    0
 }
 
 // The position after that of an entry's slot; 0 where there is no entry.
@@ -45,90 +36,52 @@ fn next_position(held: &[u32], entry: usize) -> u32
     held[entry - 1] + 1
 }
 
-// ---- positions
-
-// Gives a keyed slot its position, and enters it.
-fn place_keyed(
-    keys: &[u64],
-    keyed: &[bool],
-    held: &mut [u32],
-    heads: &mut [u32],
-    before: &mut [u32],
-    slot: usize,
-)
-    requires { ⌜ getD (now keyed) slot false ≡ true ⌝ }
-    requires { ⌜ (slot < length (now held)) × (slot < length (now before)) × (slot < 65536) × (65521 ≤ length (now heads)) ⌝ }
-    requires { ⌜ Placed (now keys) (now keyed) (now held) slot ⌝ }
-    requires { ⌜ Chains (now keys) (now keyed) (now heads) (now before) slot ⌝ }
-    ensures { λ _. ⌜ now (held .exit) ≡ set (now (held .entry)) slot (risingPosition (now (keys .entry)) (now (keyed .entry)) slot) ⌝ }
-    ensures { λ _. ⌜ Chains (now (keys .entry)) (now (keyed .entry)) (now (heads .exit)) (now (before .exit)) (suc slot) ⌝ }
+// Gives each slot the position after that of its entry's slot.
+fn place_all(before: &[u32], held: &mut [u32])
+    requires { ⌜ (length (now held) ≤ length (now before)) × (length (now held) ≤ 65536) × ((j : ℕ) → j < length (now held) → getD (now before) j 0 ≤ j) ⌝ }
+    ensures { λ _. ⌜ Placed (now (before .entry)) (now (held .exit)) (length (now (held .entry))) ⌝ }
 {
-    let chain = chains::chain_of(slot_keys::key_word(keys, slot));
-    let first = heads[chain];
-    let last = find(keys, keyed, before, slot, wide(first));
-    held[slot] = next_position(held, last);
-    before[slot] = first;
-    heads[chain] = (slot + 1) as u32;
-}
-
-// Gives a slot its position, 0 without a key.
-fn place(
-    keys: &[u64],
-    keyed: &[bool],
-    held: &mut [u32],
-    heads: &mut [u32],
-    before: &mut [u32],
-    slot: usize,
-)
-    requires { ⌜ (slot < length (now held)) × (slot < length (now before)) × (slot < 65536) × (65521 ≤ length (now heads)) ⌝ }
-    requires { ⌜ Placed (now keys) (now keyed) (now held) slot ⌝ }
-    requires { ⌜ Chains (now keys) (now keyed) (now heads) (now before) slot ⌝ }
-    ensures { λ _. ⌜ now (held .exit) ≡ set (now (held .entry)) slot (risingPosition (now (keys .entry)) (now (keyed .entry)) slot) ⌝ }
-    ensures { λ _. ⌜ Chains (now (keys .entry)) (now (keyed .entry)) (now (heads .exit)) (now (before .exit)) (suc slot) ⌝ }
-{
-    if slot_keys::is_keyed(keyed, slot) {
-        place_keyed(keys, keyed, held, heads, before, slot);
-    } else {
-        held[slot] = 0;
-    }
-}
-
-// Gives the first n slots their positions, by chains that are still bare.
-fn place_all(
-    keys: &[u64],
-    keyed: &[bool],
-    held: &mut [u32],
-    heads: &mut [u32],
-    before: &mut [u32],
-    n: usize,
-)
-    requires { ⌜ (n ≤ length (now held)) × (n ≤ length (now before)) × (n ≤ 65536) × (65521 ≤ length (now heads)) ⌝ }
-    requires { ⌜ ((k : ℕ) → getD (now heads) k 0 ≡ 0) ⌝ }
-    ensures { λ _. ⌜ now (held .exit) ≡ over (tab (risingPosition (now (keys .entry)) (now (keyed .entry))) n) (now (held .entry)) ⌝ }
-{
-    let mut i = 0;
-    while i < n {
-        place(keys, keyed, held, heads, before, i);
+    let mut i: usize = 0;
+    while i < held.len() {
+        held[i] = next_position(held, wide(before[i]));
         i += 1;
     }
 }
 
-fn restore(keys: &[u64], keyed: &[bool], held: &mut [u32], n: usize)
-    requires { ⌜ (n ≤ length (now held)) × (n ≤ 65536) ⌝ }
-    ensures { λ _. ⌜ now (held .exit) ≡ over (tab (risingPosition (now (keys .entry)) (now (keyed .entry))) n) (now (held .entry)) ⌝ }
+// Makes held order rise in all slots of `held`.
+fn restore(keys: &[u64], keyed: &[bool], held: &mut [u32], before: &mut [u32])
+    requires { ⌜ (length (now before) ≡ length (now held)) × (length (now held) ≤ 65536) ⌝ }
+    ensures { λ _. ⌜ now (held .exit) ≡ tab (risingPosition (now (keys .entry)) (now (keyed .entry))) (length (now (held .entry))) ⌝ }
 {
-    let mut heads = chains::no_entries();
-    let mut before = chains::no_entries();
-    place_all(keys, keyed, held, &mut heads, &mut before, n);
+    number(held);
+    previous::link(keys, keyed, held, before);
+    place_all(before, held);
 }
 
-// Makes held order rise in the first n slots. Nothing where they are more than 65,536 or than there are places.
+// Functions of their own, so that no proof meets so many zeros.
+fn room() -> [u32; 65536] {
+    [0; 65536]
+}
+
+fn small_room() -> [u32; 1024] {
+    [0; 1024]
+}
+
+// Makes held order rise in the first n slots. Nothing where they are more than 65,536 or than there are places. Few by way of a small array: clearing the
+// large one would take longer.
 pub fn restore_order(keys: &[u64], keyed: &[bool], held: &mut [u32], n: usize)
     ensures { λ _. ⌜ now (held .exit) ≡ restored (now (keys .entry)) (now (keyed .entry)) n (now (held .entry)) ⌝ }
 {
+    if held.len() < n {
+        return;
+    }
+    if n <= 1024 {
+        let mut before = small_room();
+        restore(keys, keyed, &mut held[0..n], &mut before[0..n]);
+        return;
+    }
     if n <= 65536 {
-        if n <= held.len() {
-            restore(keys, keyed, held, n);
-        }
+        let mut before = room();
+        restore(keys, keyed, &mut held[0..n], &mut before[0..n]);
     }
 }

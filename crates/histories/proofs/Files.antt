@@ -1,16 +1,15 @@
 -- A file that is written is that of the live arrivals as the calls tell of them.
 use mathlib.Core.Path.{_≡_, refl, sym, ap, ap₂, _∙_}
-use mathlib.Core.Bool.{true}
 use mathlib.Core.List.{List, [], _∷_, map}
 use mathlib.Core.Option.{Option, none, some}
 use Prim.Native.Nat.{ℕ}
 use lib.ListN.{length}
 use lib.Dec.{ltb}
 use Rattle.index.specs.File.{Entry, fileOf}
-use Rattle.index.specs.Step.{size, bytes, when, unless, keyOfMark, entryOf, fileBytes}
+use Rattle.index.specs.Step.{size, bytes, when, keyOfMark, entryOf, fileBytes}
 use Rattle.index.specs.History.{fileLength, write}
-use Rattle.histories.specs.Histories.{LiveArrival, Told, accepted, Run, fileOfLiving, Files}
-use Rattle.histories.proofs.Reading.{unless-accepted}
+use Rattle.histories.specs.Histories.{LiveArrival, Told, Run, fileOfLiving, Files}
+use Rattle.histories.proofs.Reading.{passed}
 use Rattle.histories.proofs.Held.{markFor, seenAfter, cellsOf}
 use Rattle.histories.proofs.Tracks.{none-seen}
 use Rattle.histories.proofs.Machine.{cellsIn, answerOf}
@@ -34,11 +33,6 @@ good-files r g =
       sized = answer-machine r g fileLength refl ∙ ap (λ (bs : List ℕ). some (size (length bs))) (file-is (r .told));
       written = λ places ok.
           answer-machine r g (write places) refl ∙
-          ap some (go (when (ltb places (length (fileBytes (r .told .header) (cellsIn (r .told))))) 13)
+          ap some (passed (when (ltb places (length (fileBytes (r .told .header) (cellsIn (r .told))))) 13) (bytes (fileBytes (r .told .header) (cellsIn (r .told))))
           (sym (accepts-machine r g (write places) refl) ∙ ok) ∙ ap bytes (file-is (r .told)));
     }
-  where
-    go : (n : ℕ) → accepted (unless n (bytes (fileBytes (r .told .header) (cellsIn (r .told))))) ≡ true →
-        unless n (bytes (fileBytes (r .told .header) (cellsIn (r .told)))) ≡ bytes (fileBytes (r .told .header) (cellsIn (r .told)))
-    go n e = ap (λ (m : ℕ). unless m (bytes (fileBytes (r .told .header) (cellsIn (r .told)))))
-        (unless-accepted n (bytes (fileBytes (r .told .header) (cellsIn (r .told)))) e)

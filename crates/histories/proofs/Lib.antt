@@ -9,6 +9,11 @@ pub mod Machine
 pub mod Steps
 pub mod Runs
 pub mod Starts
+pub mod Keys
+pub mod Adds
 pub mod Searches
+pub mod Scores
 pub mod Files
+pub mod Left
 pub mod Claims
+pub mod Houses

@@ -1,5 +1,5 @@
 -- Answers read back by arrival.
-use mathlib.Core.Path.{_≡_, refl, sym, subst}
+use mathlib.Core.Path.{_≡_, refl, sym, ap, subst}
 use mathlib.Core.Bool.{Bool, true}
 use mathlib.Core.List.{List, [], _∷_, map}
 use mathlib.Core.Option.{Option, none, some, Option·map}
@@ -58,3 +58,6 @@ read-accepted g (bytes bs) = refl
 pub unless-accepted : (n : ℕ) (b : Answer) → accepted (unless n b) ≡ true → n ≡ 0
 unless-accepted zero b e = refl
 unless-accepted (suc n) b e = absurd (subst T (sym e) tt)
+
+pub passed : (n : ℕ) (b : Answer) → accepted (unless n b) ≡ true → unless n b ≡ b
+passed n b e = ap (λ (m : ℕ). unless m b) (unless-accepted n b e)

@@ -16,20 +16,21 @@ use Rattle.choose.specs.Choose.{choose}
 use Rattle.choose.proofs.Choice.{choose-length, choose-each, choose-count, choose-falls, choose-others, choose-map}
 use Rattle.encode.specs.declared.Header.{Header}
 use Rattle.encode.specs.Coded.{fault}
-use Rattle.index.specs.State.{Mark, Slot, newSlot}
+use Rattle.index.specs.State.{Slot}
 use Rattle.index.specs.Codec.{scoreOf, tiny}
 use Rattle.index.specs.Step.{Query, scoreIs, hits, firstOf, when, unless, Hit, rank, hitOf, hitsOf, bySlot, queryRefusal, shortResult, searched, scoreAnswer}
 use Rattle.index.specs.History.{HistoryOp, score, search}
 use Rattle.index.proofs.Kept.{first-none, when-none}
-use Rattle.histories.specs.Histories.{LiveArrival, ids, accepted, Run, accepts, answer, scores, orderOf, times, ListsBest, SearchesSound, begin}
-use Rattle.histories.proofs.Lists.{each-of, mem-map, mem-length, any-none, any-mem}
+use Rattle.histories.specs.Histories.{LiveArrival, ids, lives, accepted, Run, accepts, answer, scores, orderOf, times, ListsBest, SearchesSound, begin}
+use Rattle.histories.proofs.Lists.{each-of, mem-length, any-none}
 use Rattle.histories.proofs.Reading.{unless-accepted}
 use Rattle.histories.proofs.Arrivals.{Sorted}
-use Rattle.histories.proofs.Held.{markFor, seenAfter, cellsOf, cells-length}
-use Rattle.histories.proofs.Tracks.{none-seen, ids-sorted, find}
+use Rattle.histories.proofs.Held.{seenAfter, cellsOf, cells-length}
+use Rattle.histories.proofs.Tracks.{none-seen, ids-sorted}
 use Rattle.histories.proofs.Machine.{cellsIn, answerOf}
 use Rattle.histories.proofs.Runs.{Good, full, each-moment, answer-machine, accepts-machine}
 use Rattle.histories.proofs.Starts.{start-good}
+use Rattle.histories.proofs.Keys.{Named, find-own, all-live}
 
 -- ---- the scores of the live arrivals
 
@@ -37,18 +38,6 @@ module _ (h : Header) (q : Query) where
   cells-scored : (seen : ℕ → ℕ) (ls : List LiveArrival) → map bySlot (hitsOf h q (cellsOf seen ls)) ≡ map (λ l. (l .arrival, scoreOf h q (l .code))) ls
   cells-scored seen [] = refl
   cells-scored seen (l ∷ ls) = ap (λ (r : List (ℕ × Float)). (l .arrival, scoreOf h q (l .code)) ∷ r) (cells-scored (seenAfter seen (l .key)) ls)
-
--- an arrival's own code is found
-find-own : (seen : ℕ → ℕ) (ls : List LiveArrival) → Sorted (ids ls) → Each (λ l. (m : Mark) ×
-    (find (l .arrival) (cellsOf seen ls) ≡ some (newSlot m (l .code)))) ls
-find-own seen [] s = tt
-find-own seen (x ∷ ls) s = ((markFor seen (x .key), rw (eq-eqb (x .arrival) (x .arrival) refl)), go ls (s .0) (find-own (seenAfter seen (x .key)) ls (s .1)))
-  where
-    go : (zs : List LiveArrival) → Each (λ b. x .arrival < b) (ids zs) →
-        Each (λ l. (m : Mark) × (find (l .arrival) (cellsOf (seenAfter seen (x .key)) ls) ≡ some (newSlot m (l .code)))) zs →
-        Each (λ l. (m : Mark) × (find (l .arrival) (cellsOf seen (x ∷ ls)) ≡ some (newSlot m (l .code)))) zs
-    go [] h k = tt
-    go (z ∷ zs) h k = ((k .0 .0, rw (ne-eqb (z .arrival) (x .arrival) (λ e. omega (arith, h .0))) (k .0 .1)), go zs (h .1) (k .1))
 
 -- each arrival stands once among the scores
 times-none : (a : ℕ) (xs : List (ℕ × Float)) → Each (λ b. a < b) (map (λ x. x .0) xs) → times a xs ≡ 0
@@ -134,11 +123,9 @@ module _ (r : Run) (g : Good r) (q : Query) (k places : ℕ) where
         some (scoreIs (scoreOf head q (l .code)))
     unfolding answerOf scoreAnswer
     scored l m =
-        let own = each-of (λ (x : LiveArrival). (n : Mark) × (find (x .arrival) (cellsIn (r .told)) ≡ some (newSlot n (x .code)))) m
-        (find-own none-seen (r .told .living) (ids-sorted (g .tracks))) in
+        let own = each-of (Named (cellsIn (r .told))) m (find-own none-seen (r .told .living) (ids-sorted (g .tracks))) in
         let some-found : 0 < length found = omega (arith, mem-length m, cells-length none-seen (r .told .living), length-map (cellsIn (r .told)) (hitOf head q)) in
-        answer-machine r g (score (l .arrival) q) (any-mem (eqb (l .arrival)) (mem-map (λ (x : LiveArrival). x .arrival) m)
-        (eq-eqb (l .arrival) (l .arrival) refl)) ∙
+        answer-machine r g (score (l .arrival) q) (each-of (λ (x : LiveArrival). lives (r .told .living) (x .arrival) ≡ true) m (all-live (r .told .living))) ∙
         ap (λ (o : Option Slot). some (scoreAnswer head q o)) (own .1) ∙
         scored-as (scoreOf head q (l .code)) (not-tiny some-found)
         (each-of (λ (x : LiveArrival). isNan (scoreOf head q (x .code)) ≡ false) m (map-each (λ x. isNan (x .1) ≡ false)

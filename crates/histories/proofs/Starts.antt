@@ -1,32 +1,33 @@
 -- A start is a good run: the record and the arrays fit, and the slots in use, none in a new index, hold rising positions.
 use mathlib.Core.Path.{_≡_, refl, sym, ap, ap₂, _∙_, subst}
 use mathlib.Core.Bool.{true, not, _&&_, _||_}
-use mathlib.Core.List.{List, [], _∷_}
+use mathlib.Core.List.{List, [], _∷_, map}
 use Prim.Native.Nat.{ℕ, zero, suc, _<_}
 use native.Mathlib.Omega.{arith}
 use lib.ListN.{length}
-use lib.Dec.{eqb}
+use lib.Dec.{T, eqb}
 use borrow.Author.Tests.{le-ltb, not-false}
-use Rattle.lists.specs.Lists.{tab, over, joined}
+use Rattle.lists.specs.Lists.{tab, below, zipWith, over, joined}
 use Rattle.lists.specs.Keep.{bit, Each}
-use Rattle.lists.proofs.Laws.{length-tab}
-use Rattle.lists.proofs.Front.{each-tab}
+use Rattle.lists.proofs.Laws.{length-tab, zip-tab, tab-ext}
+use Rattle.lists.proofs.Front.{map-tab, each-tab}
 use Rattle.encode.specs.declared.Header.{Header}
 use Rattle.index.specs.declared.Index.{Index}
 use Rattle.index.specs.declared.Made.the-variants as Made
 use Rattle.index.specs.Arrays.{Arrays}
-use Rattle.index.specs.State.{State, headerOf, capacity, slotAt, stateOf, recordOf, overlay, seconds}
+use Rattle.index.specs.State.{Mark, dead, unkeyed, keyed, Slot, isLive, live, State, headerOf, capacity, slotAt, stateOf, recordOf, overlay, seconds, withMark}
 use Rattle.index.specs.Fit.{between, fit}
-use Rattle.index.specs.Step.{setBits, when, rising, widthSet, guarded, Outcome, step}
+use Rattle.index.specs.Step.{done, keyOfMark, liveFrom, oneMore, setBits, when, rising, widthSet, guarded, Outcome, step}
 use Rattle.index.specs.Call.{Result, call}
+use Rattle.index.specs.Answers.{result}
 use Rattle.index.specs.Make.{Begun, begun, empty, makeRefusal, makeUnless, make}
 use Rattle.index.specs.Sound.{Ranged, Sound}
-use Rattle.index.specs.Read.{slotsIn, stateIn, readInto}
+use Rattle.index.specs.Read.{countIn, keyFrom, entriesIn, slotIn, slotsIn, stateIn, readInto}
 use Rattle.index.proofs.Fits.{sound-fit}
 use Rattle.lists.proofs.Tests.{and-left, and-right}
 use Rattle.index.proofs.Kept.{first-none, when-none, fit-kept, call-state}
-use Rattle.index.proofs.Read.{recordIn, isMade, unkeyedWord, read-words, read-rises, read-fits, read-value}
-use Rattle.histories.specs.Histories.{Making, new, withResidual, withWorkingDim, madeHeader, Start, asMade, withWidth, asRead, begin}
+use Rattle.index.proofs.Read.{recordIn, isMade, unkeyedWord, mark-key, loose, loose-live, read-words, read-length, read-rises, read-fits, read-value}
+use Rattle.histories.specs.Histories.{Making, new, withResidual, withWorkingDim, madeHeader, Start, asMade, withWidth, asRead, begin, ids, LiveArrival, liveArrival, liveBy, Told, filedArrival, toldIn, AllArrive, ToldAsFiled}
 use Rattle.histories.proofs.Arrivals.{Sorted, sorted-more}
 use Rattle.histories.proofs.Cells.{cells-in-order}
 use Rattle.histories.proofs.Held.{cells-risen}
@@ -131,16 +132,70 @@ read-good file b x e =
     let same : stateOf x (readInto b file .arrays) .slots ≡ slotsIn file = ap (λ (s : State). s .slots) (read-value b file x e) in
     begin-good x (readInto b file .arrays) (read-fits b file x e) (rw same (read-rises file)) (rw same (read-words file))
 
-pub start-good : (x : Index) (a : Arrays) → Start x a → Good (begin x a)
+-- a width call on an index without slots
+width-fit : (y : Index) (b : Arrays) (w : ℕ) (x : Index) (a : Arrays) → fit y b ≡ true → y .n ≡ 0 → call y b (setBits w) ≡ result x a done → (fit x a ≡ true) × (x .n ≡ 0)
 unfolding step
-start-good x a (asMade m b e) = let p = made-fit m b x a e in empty-good x a (p .0) (p .1)
-start-good x a (withWidth m c y b w e f) =
-    let p = made-fit m c y b e in
+width-fit y b w x a g z f =
     let i : call y b (setBits w) .index ≡ x = ap (λ (r : Result). r .index) f in
-    let k : call y b (setBits w) .arrays ≡ a = ap (λ (r : Result). r .arrays) f in
-    empty-good x a (ap₂ fit (sym i) (sym k) ∙ fit-kept y b (setBits w) (p .0))
-    (slots-none x a
-    (ap₂ (λ (z : Index) (c : Arrays). stateOf z c .slots) (sym i) (sym k) ∙ ap (λ (s : State). s .slots) (call-state y b (setBits w) (p .0)) ∙
-    width-slots (stateOf y b) w (none-slots y b (p .1))))
+    let k : call y b (setBits w) .arrays ≡ a = ap (λ (r : Result). r .arrays) f in (
+      ap₂ fit (sym i) (sym k) ∙ fit-kept y b (setBits w) g,
+      slots-none x a
+          (ap₂ (λ (z : Index) (c : Arrays). stateOf z c .slots) (sym i) (sym k) ∙ ap (λ (s : State). s .slots) (call-state y b (setBits w) g) ∙
+          width-slots (stateOf y b) w (none-slots y b z)),
+    )
+
+pub start-good : (x : Index) (a : Arrays) → Start x a → Good (begin x a)
+start-good x a (asMade m b e) = let p = made-fit m b x a e in empty-good x a (p .0) (p .1)
+start-good x a (withWidth m c y b w e f) = let p = made-fit m c y b e in let q = width-fit y b w x a (p .0) (p .1) f in empty-good x a (q .0) (q .1)
 start-good x a (asRead file b e) =
     subst (λ (c : Arrays). Good (begin x c)) (ap (λ (r : Begun). r .arrays) e) (read-good file b x (ap (λ (r : Begun). r .answer) e))
+
+-- ---- what a read start tells is what the file says
+
+abbrev arriving : ℕ → Slot → LiveArrival
+arriving a s = record { arrival = a; key = keyOfMark (s .mark); code = s .code }
+
+-- rising positions change neither keys nor codes
+risen-arrive : (seen : ℕ → ℕ) (ws : List ℕ) (ss : List Slot) → length ws ≡ length ss → Each (λ s. live s ≡ true) ss →
+    map liveArrival (liveBy ws (rising seen ss)) ≡ zipWith arriving ws ss
+unfolding rising
+risen-arrive seen [] ss e h = refl
+risen-arrive seen (a ∷ ws) [] e h = absurd (omega arith)
+risen-arrive seen (a ∷ ws) (s ∷ ss) e h = go (s .mark) (h .0) (λ next. risen-arrive next ws ss (omega arith) (h .1))
+  where
+    go : (m : Mark) → isLive m ≡ true → ((next : ℕ → ℕ) → map liveArrival (liveBy ws (rising next ss)) ≡ zipWith arriving ws ss) →
+        map liveArrival (liveBy (a ∷ ws) (rising seen (withMark s m ∷ ss))) ≡ (arriving a (withMark s m) ∷ zipWith arriving ws ss)
+    go (dead u) l ih = absurd (subst T (sym l) tt)
+    go (unkeyed u) l ih = rw (ih seen)
+    go (keyed k p) l ih = rw (ih (oneMore k seen))
+
+slots-arrive : (file : List ℕ) → map liveArrival (liveFrom 0 (slotsIn file)) ≡ tab (filedArrival file) (countIn file)
+unfolding slotsIn slotIn
+slots-arrive file =
+    let n : ℕ = countIn file in
+    ap (map liveArrival) (sym (cells-in-order n (slotsIn file) (read-length file))) ∙
+    risen-arrive none-seen (below n) (loose file) (length-tab (λ i. i) n ∙ sym (length-tab (slotIn file) n)) (loose-live file) ∙
+    zip-tab arriving (λ i. i) (slotIn file) n ∙
+    tab-ext _ _ n (λ i l. λ j. record { arrival = i; key = mark-key (keyFrom (entriesIn file) i) j; code = slotIn file i .code })
+
+pub told-as-filed : ToldAsFiled
+unfolding begin stateOf stateIn
+told-as-filed file b x a e =
+    let made : readInto b file .answer ≡ Made.Index x = ap (λ (r : Begun). r .answer) e in
+    let value : stateOf x a ≡ stateIn file = ap (stateOf x) (sym (ap (λ (r : Begun). r .arrays) e)) ∙ read-value b file x made in
+    let count : x .n ≡ countIn file = sym (slots-in-use x a) ∙ ap (λ (s : State). length (s .slots)) value ∙ read-length file in
+    let living : map liveArrival (liveFrom 0 (stateOf x a .slots)) ≡ toldIn file .living =
+    ap (λ (s : State). map liveArrival (liveFrom 0 (s .slots))) value ∙ slots-arrive file in
+    λ i. record { header = value i .header; next = count i; living = living i }
+
+none-arrive : (x : Index) (a : Arrays) → x .n ≡ 0 → ids (begin x a .told .living) ≡ below (x .n)
+unfolding begin liveFrom
+none-arrive x a z = ap (λ (ss : List Slot). ids (map liveArrival (liveFrom 0 ss))) (none-slots x a z) ∙ ap below (sym z)
+
+pub all-arrive : AllArrive
+unfolding begin
+all-arrive x a (asMade m b e) = none-arrive x a (made-fit m b x a e .1)
+all-arrive x a (withWidth m c y b w e f) = let p = made-fit m c y b e in none-arrive x a (width-fit y b w x a (p .0) (p .1) f .1)
+all-arrive x a (asRead file b e) =
+    let told : begin x a .told ≡ toldIn file = told-as-filed file b x a e in
+    ap (λ (t : Told). ids (t .living)) told ∙ map-tab (λ (l : LiveArrival). l .arrival) (filedArrival file) (countIn file) ∙ ap (λ (t : Told). below (t .next)) (sym told)

@@ -110,7 +110,7 @@ module _ {ws : List ℕ} {next : ℕ} {ss : List Slot} {ls : List LiveArrival} (
       }
 
   -- a compaction
-  compacted-slots : compacted ss ≡ map (λ c. c .slot) (cellsOf none-seen ls)
+  pub compacted-slots : compacted ss ≡ map (λ c. c .slot) (cellsOf none-seen ls)
   unfolding compacted
   compacted-slots = ap (rising none-seen) (sym (cells-slots ws ss (t .places)) ∙ ap (map (λ (c : Cell). c .slot)) (t .cells)) ∙ cells-rising none-seen ls
 

@@ -15,10 +15,10 @@ use mathlib.Core.Bool.{Bool, true, false, not, cond, _&&_, _||_}
 use mathlib.Core.List.{List, [], _∷_, _++_, map, List·Memᴰ}
 use mathlib.Core.Option.{Option, none, some, Option·map}
 use Prim.Native.Nat.{ℕ, suc, min, max, _≤_}
-use lib.ListN.{length, getElem?}
+use lib.ListN.{length, drop, getElem?}
 use lib.Dec.{ltb, eqb}
 use lib.Ieee.{Float}
-use Rattle.lists.specs.Lists.{tab}
+use Rattle.lists.specs.Lists.{tab, below}
 use Rattle.lists.specs.Keep.{keep, count, Each, any}
 use Rattle.choose.specs.Falling.{Falls}
 use Rattle.score.specs.Order.{orderNumber}
@@ -26,16 +26,18 @@ use Rattle.encode.specs.declared.Header.{Header}
 use Rattle.encode.specs.Coded.{Code, noSpare, spareOf}
 use Rattle.index.specs.declared.Index.{Index}
 use Rattle.index.specs.declared.Made.the-variants as Made
+use Rattle.index.specs.declared.Found.{Found}
+use Rattle.index.specs.declared.Written.{Written}
 use Rattle.index.specs.Arrays.{Arrays}
 use Rattle.index.specs.State.{Slot, live, headerOf, stateOf}
 use Rattle.index.specs.Codec.{encoded, scoreOf}
 use Rattle.index.specs.Fit.{fit}
 use Rattle.index.specs.File.{fileOf}
-use Rattle.index.specs.Step.{Item, Query, Answer, refused, done, flag, slot, maybeSlot, maybeKey, scoreIs, hits, keyHits, size, bytes, Cell, liveFrom, keyOfMark, rising, setBits}
+use Rattle.index.specs.Step.{Item, Query, Answer, refused, done, flag, slot, maybeSlot, maybeKey, scoreIs, hits, keyHits, size, bytes, Cell, liveFrom, keyOfMark, Hit, bySlot, byKey, rising, setBits}
 use Rattle.index.specs.Call.{Result, call}
-use Rattle.index.specs.Answers.{result}
+use Rattle.index.specs.Answers.{result, hitCount, byteCount, firstEntries, found, foundKeyed, wrote, LaterKept}
 use Rattle.index.specs.Make.{newHeader, begun, make}
-use Rattle.index.specs.Read.{readInto}
+use Rattle.index.specs.Read.{countIn, headerIn, keyFrom, entriesIn, slotIn, readInto}
 use Rattle.index.specs.History.{HistoryOp, add, addKeyed, addMulti, relabel, remove, compact, score, search, searchKeyed, keyOf, contains, slotOf, fileLength, write, opAt}
 
 abbrev pub History : Type 0
@@ -234,11 +236,13 @@ after r (op ∷ h) = after (advance r op) h
 abbrev pub accepts : Moment → Bool
 accepts m = accepted (called (m .before) (m .op) .answer)
 
+-- "the live arrival that then has this number", then being after the call
+abbrev pub arrivalThen : Moment → (number : ℕ) → Option ℕ
+arrivalThen m = let r = advance (m .before) (m .op) in arrivalAt (r .arrivals) (ids (r .told .living))
+
 -- its answer, a slot in it "read back as the live arrival that then has this number"
 unfoldable pub answer : Moment → Option Answer
-answer m =
-    let r = advance (m .before) (m .op) in
-    read (arrivalAt (r .arrivals) (ids (r .told .living))) (called (m .before) (m .op) .answer)
+answer m = read (arrivalThen m) (called (m .before) (m .op) .answer)
 
 -- the list "once compactions are struck out", and each other call
 abbrev pub struck : History → History
@@ -270,8 +274,8 @@ pub data Start (x : Index) (a : Arrays) : Type 0 where
 abbrev pub liveArrival : Cell → LiveArrival
 liveArrival c = record { arrival = c .number; key = keyOfMark (c .slot .mark); code = c .slot .code }
 
--- "a read index's slots arrive as 0, 1, 2 in slot order; a new index has none". What was read is what the file says, whatever the arrays held: law
--- `read-value` of the index.
+-- "a read index's slots arrive as 0, 1, 2 in slot order; a new index has none". What was read is what the file says, whatever the arrays held: laws
+-- `AllArrive` and `ToldAsFiled`.
 unfoldable pub begin : Index → Arrays → Run
 begin x a =
     record {
@@ -353,7 +357,24 @@ SearchesSound =
     (x : Index) (a : Arrays) → Start x a → (h : History) → Legal (begin x a) h →
     Each (λ m. (q : Query) (k places : ℕ) → m .op ≡ search q k places → accepts m ≡ true → ListsBest m q k) (moments (begin x a) h)
 
--- ---- laws beside the claims
+-- ---- laws beside the claims: starts
+
+-- "a read index's slots arrive as 0, 1, 2 in slot order; a new index has none": every slot in use of a start is a live arrival
+abbrev pub AllArrive : Type 0
+AllArrive = (x : Index) (a : Arrays) → Start x a → ids (begin x a .told .living) ≡ below (x .n)
+
+-- what a file tells: its header, and each of its slots as a live arrival, with the key and the code that it says
+abbrev pub filedArrival : (file : List ℕ) → (slot : ℕ) → LiveArrival
+filedArrival file i = record { arrival = i; key = keyFrom (entriesIn file) i; code = slotIn file i .code }
+
+abbrev pub toldIn : (file : List ℕ) → Told
+toldIn file = record { header = headerIn file; next = countIn file; living = tab (filedArrival file) (countIn file) }
+
+-- what is told at a read start is what the file tells
+abbrev pub ToldAsFiled : Type 0
+ToldAsFiled = (file : List ℕ) (b : Arrays) (x : Index) (a : Arrays) → readInto b file ≡ begun (Made.Index x) a → begin x a .told ≡ toldIn file
+
+-- ---- laws beside the claims: along a run
 
 -- the live slots of the arrays, the first slot being that of the first arrival of the list
 abbrev pub liveBy : (arrivals : List ℕ) → List Slot → List Cell
@@ -403,14 +424,112 @@ PartAtRoomOnly =
     (x : Index) (a : Arrays) → Start x a → (h₁ h₂ : History) → Legal (begin x a) h₁ → Legal (begin x a) h₂ → struck h₁ ≡ struck h₂ →
     PartsFull (others (begin x a) h₁) (others (begin x a) h₂)
 
+-- ---- laws beside the claims: answers, by what is told
+
+-- a call at a run
+abbrev pub moment : Run → HistoryOp → Moment
+moment r op = record { before = r; op = op }
+
+-- the live arrivals of the key, in order of arrival: the order in which it holds its slots
+abbrev pub holders : (key : ℕ) → List LiveArrival → List ℕ
+holders j ls = ids (keep (carries j) ls)
+
+-- "Key questions are all calls that only ask for a slot's key or for slots of a key"; "Relabel and removal answer yes or no"
+pub record AnswersKeys (r : Run) : Type 0 where
+  -- `key_of` gives the key that the calls gave, `contains_key` says whether one has the key, `slot_at` the i-th that has it
+  pub keys : Each (λ l. answer (moment r (keyOf (l .arrival))) ≡ some (maybeKey (l .key))) (r .told .living)
+  pub contained : (j : ℕ) → answer (moment r (contains j)) ≡ some (flag (taken j (r .told .living)))
+  pub held : (j i : ℕ) → answer (moment r (slotOf j i)) ≡ some (maybeSlot (getElem? (holders j (r .told .living)) i))
+  -- yes where the calls tell of a change
+  pub relabelled : (j k : ℕ) → answer (moment r (relabel j k)) ≡ some (flag (renames j k (r .told .living)))
+  pub removed : (j : ℕ) → answer (moment r (remove j)) ≡ some (flag (taken j (r .told .living)))
+
+abbrev pub AlwaysAnswersKeys : Type 0
+AlwaysAnswersKeys = (x : Index) (a : Arrays) → Start x a → (h : History) → AnswersKeys (after (begin x a) h)
+
+-- an accepted add answers the arrival that stores its vector: "each accepted append is the next"; `add_keyed` on a held key "overwrites the first held"
+pub record AnswersAdds (r : Run) : Type 0 where
+  pub appended : (op : HistoryOp) → isAppend op (r .told .living) ≡ true → accepts (moment r op) ≡ true → answer (moment r op) ≡ some (slot (r .told .next))
+  pub overwritten : (j : ℕ) (v : Item) → taken j (r .told .living) ≡ true → accepts (moment r (addKeyed j v)) ≡ true →
+      answer (moment r (addKeyed j v)) ≡ Option·map slot (getElem? (holders j (r .told .living)) 0)
+
+abbrev pub AlwaysAnswersAdds : Type 0
+AlwaysAnswersAdds = (x : Index) (a : Arrays) → Start x a → (h : History) → AnswersAdds (after (begin x a) h)
+
+-- the keyed list of a list of hits: each with the key of its arrival, `byKey` "drops unkeyed hits and repeats"
+pub record KeyedList (living : List LiveArrival) (list keyed : List (ℕ × Float)) : Type 0 where
+  pub chosen : List Hit
+  pub listed : map bySlot chosen ≡ list
+  pub keys : Each (λ x. List·Memᴰ {A = ℕ × Option ℕ} (x .number, x .key) (map (λ l. (l .arrival, l .key)) living)) chosen
+  pub dropped : byKey [] chosen ≡ keyed
+
+pub record AnswersScores (r : Run) : Type 0 where
+  -- an accepted score is that of the code which the calls gave the arrival
+  pub scored : (q : Query) → Each (λ l. accepts (moment r (score (l .arrival) q)) ≡ true →
+      answer (moment r (score (l .arrival) q)) ≡ some (scoreIs (scoreOf (r .told .header) q (l .code)))) (r .told .living)
+  -- a keyed search answers as the search by slot would at that moment: the keys of its list, or its refusal
+  pub listed : (q : Query) (k places : ℕ) (list : List (ℕ × Float)) → answer (moment r (search q k places)) ≡ some (hits list) →
+      (keyed : List (ℕ × Float)) × (answer (moment r (searchKeyed q k places)) ≡ some (keyHits keyed)) × KeyedList (r .told .living) list keyed
+  pub turnedDown : (q : Query) (k places n : ℕ) → answer (moment r (search q k places)) ≡ some (refused n) →
+      answer (moment r (searchKeyed q k places)) ≡ some (refused n)
+
+abbrev pub AlwaysAnswersScores : Type 0
+AlwaysAnswersScores = (x : Index) (a : Arrays) → Start x a → (h : History) → AnswersScores (after (begin x a) h)
+
 -- the file of the live arrivals as the calls tell of them: "Only live slots are written, numbered from 0 in slot order, in the key entries too"
 abbrev pub fileOfLiving : Told → List ℕ
 fileOfLiving t = fileOf (t .header) (map (λ l. record { code = l .code; key = l .key }) (t .living))
 
 pub record Files (r : Run) : Type 0 where
-  pub sized : answer (record { before = r; op = fileLength }) ≡ some (size (length (fileOfLiving (r .told))))
-  pub written : (places : ℕ) → accepts (record { before = r; op = write places }) ≡ true → answer (record { before = r; op = write places }) ≡
-      some (bytes (fileOfLiving (r .told)))
+  pub sized : answer (moment r fileLength) ≡ some (size (length (fileOfLiving (r .told))))
+  pub written : (places : ℕ) → accepts (moment r (write places)) ≡ true → answer (moment r (write places)) ≡ some (bytes (fileOfLiving (r .told)))
 
 abbrev pub AlwaysFiles : Type 0
 AlwaysFiles = (x : Index) (a : Arrays) → Start x a → (h : History) → Files (after (begin x a) h)
+
+-- ---- laws beside the claims: what lent slices hold
+
+-- What a search may hand back, and leave in the slices that it was lent, by its contract: `shown` is `found`, and `foundKeyed` for a keyed search. A slice keeps its length.
+pub record Leaves (shown : Found → List ℕ → List Float → Answer) (m : Moment) (numbers : List ℕ) (scores : List Float) : Type 0 where
+  pub handed : Found
+  pub numbersAfter : List ℕ
+  pub scoresAfter : List Float
+  pub answered : shown handed numbersAfter scoresAfter ≡ called (m .before) (m .op) .answer
+  pub kept : LaterKept (hitCount handed) numbers numbersAfter × LaterKept (hitCount handed) scores scoresAfter
+  pub sized : (length numbersAfter ≡ length numbers) × (length scoresAfter ≡ length scores)
+
+-- and a writing in the file that it was lent
+pub record Writes (m : Moment) (file : List ℕ) : Type 0 where
+  pub handed : Written
+  pub fileAfter : List ℕ
+  pub answered : wrote handed fileAfter ≡ called (m .before) (m .op) .answer
+  pub kept : LaterKept (byteCount handed) file fileAfter
+  pub sized : length fileAfter ≡ length file
+
+-- of a search by slot: the arrivals that it lists in the first places, and what stands in the later ones
+module _ {m : Moment} {numbers : List ℕ} {scores : List Float} (p : Leaves found m numbers scores) where
+  abbrev pub listedIn : List (Option ℕ)
+  listedIn = map (arrivalThen m) (firstEntries (hitCount (p .handed)) (p .numbersAfter))
+
+  abbrev pub laterIn : List ℕ
+  laterIn = drop (hitCount (p .handed)) (p .numbersAfter)
+
+-- Two calls whose lent slices held the same leave the same in them: slots by arrival, all else as it stands.
+pub record LeaveAlike (m n : Moment) : Type 0 where
+  pub slots : (numbers : List ℕ) (scores : List Float) (p : Leaves found m numbers scores) (q : Leaves found n numbers scores) →
+      (p .handed ≡ q .handed) × (listedIn p ≡ listedIn q) × (laterIn p ≡ laterIn q) × (p .scoresAfter ≡ q .scoresAfter)
+  pub keys : (numbers : List ℕ) (scores : List Float) (p : Leaves foundKeyed m numbers scores) (q : Leaves foundKeyed n numbers scores) →
+      (p .handed ≡ q .handed) × (p .numbersAfter ≡ q .numbersAfter) × (p .scoresAfter ≡ q .scoresAfter)
+  pub files : (file : List ℕ) (p : Writes m file) (q : Writes n file) → (p .handed ≡ q .handed) × (p .fileAfter ≡ q .fileAfter)
+
+-- each of the one list with its partner in the other
+abbrev pub Paired : (Moment → Moment → Type 0) → List Moment → List Moment → Type 0
+Paired R [] [] = Unit
+Paired R [] (n ∷ ns) = ⊥
+Paired R (m ∷ ms) [] = ⊥
+Paired R (m ∷ ms) (n ∷ ns) = R m n × Paired R ms ns
+
+abbrev pub SameLeft : Type 0
+SameLeft =
+    (x : Index) (a : Arrays) → Start x a → (h₁ h₂ : History) → Legal (begin x a) h₁ → Legal (begin x a) h₂ → struck h₁ ≡ struck h₂ →
+    map accepts (others (begin x a) h₁) ≡ map accepts (others (begin x a) h₂) → Paired LeaveAlike (others (begin x a) h₁) (others (begin x a) h₂)

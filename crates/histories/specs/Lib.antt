@@ -1,2 +1,3 @@
--- The theorem on histories, as a statement.
+-- The theorem on histories, and that on two houses, as statements.
 pub mod Histories
+pub mod Houses

@@ -21,7 +21,7 @@ use Rattle.scan.specs.Scan.{takesPart}
 use Rattle.hits.specs.Hits.{scoredSlots}
 use Rattle.hits.specs.Steps.{scoreEntry, orderEntry, anyNan, Scores, EntersSlot, EntersSlots}
 
-never : {A : Type 0} → false ≡ true → A
+pub never : {A : Type 0} → false ≡ true → A
 never e = absurd (subst T (sym e) tt)
 
 abbrev someOf : List ℕ → Bool
@@ -32,7 +32,7 @@ none-first : (b : Bool) (i : ℕ) (is : List ℕ) → cond b (i ∷ is) is ≡ [
 none-first true i is e = absurd (let z : suc (length is) ≡ 0 = ap length e in omega arith)
 none-first false i is e = (refl, e)
 
-none-each : (p : ℕ → Bool) (is : List ℕ) → keep p is ≡ [] → Each (λ i. p i ≡ false) is
+pub none-each : (p : ℕ → Bool) (is : List ℕ) → keep p is ≡ [] → Each (λ i. p i ≡ false) is
 none-each p [] e = tt
 none-each p (i ∷ is) e = let r = none-first (p i) i (keep p is) e in (r .0, none-each p is (r .1))
 

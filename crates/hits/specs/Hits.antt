@@ -1,9 +1,9 @@
 -- A list of hits (document 01, store.rs, choice of slots): the slots that a mark says take part, each with its score, chosen by order number.
 use mathlib.Core.Bool.{Bool, not, cond, _&&_}
-use mathlib.Core.List.{List, [], _∷_, map}
+use mathlib.Core.List.{List, [], map}
 use Prim.Native.Nat.{ℕ}
 use lib.ListN.{length}
-use lib.Dec.{leb, eqb}
+use lib.Dec.{leb, ltb}
 use lib.Ieee.{Float, isNan}
 use Rattle.lists.specs.Keep.{keep, any}
 use Rattle.choose.specs.Choose.{choose}
@@ -13,12 +13,11 @@ use Rattle.unit.specs.Calls.{rotatable}
 use Rattle.encode.specs.declared.Header.{Header}
 use Rattle.encode.specs.Coded.{codeIn}
 use Rattle.lists.specs.Lists.{below}
-use Rattle.index.specs.declared.Found.{Found}
-use Rattle.index.specs.declared.Found.the-variants as Found
+use Rattle.hits.specs.declared.Listed.{Listed}
+use Rattle.hits.specs.declared.Listed.the-variants as Listed
 use Rattle.index.specs.State.{stageAt}
 use Rattle.index.specs.Codec.{scoreOf}
 use Rattle.scan.specs.Scan.{takesPart}
-use Rattle.index.specs.Step.{firstOf, when}
 
 -- the score of each slot by the arrays of codes and scales
 unfoldable pub scoreAt : Header → (codes scales codes2 scales2 : List ℕ) → Query → ℕ → Float
@@ -32,17 +31,17 @@ module _ (score : ℕ → Float) (marks : List ℕ) (n : ℕ) where
   abbrev pub chosen : (k : ℕ) → List (ℕ × Float)
   chosen k = choose (λ e. orderNumber (e .1)) k scoredSlots
 
-  -- 13 where the call can't be made (see `ready`), then 12, "a score to be ranked .. is NaN"; else 0
-  unfoldable pub listRefusal : (ready : Bool) → ℕ
-  listRefusal ready = firstOf (when (not ready) 13 ∷ when (any (λ e. isNan (e .1)) scoredSlots) 12 ∷ [])
+  -- what the call answers, `able` being `ready` below: of three tests in their order the first that fails
+  unfoldable pub listAnswer : (able : Bool) → (k places : ℕ) → Listed
+  listAnswer able k places =
+      cond (not able) Listed.Unable (cond (any (λ e. isNan (e .1)) scoredSlots) Listed.Nan
+      (cond (ltb places (length (chosen k))) Listed.Unable (Listed.Hits (length (chosen k)))))
 
-  -- the list that is written: none where it is refused, or where it has not as many places as it needs
-  unfoldable pub shown : (ready : Bool) → (k places : ℕ) → List (ℕ × Float)
-  shown ready k places = cond (eqb (listRefusal ready) 0 && leb (length (chosen k)) places) (chosen k) []
-
-  -- what the call answers
-  unfoldable pub listAnswer : (ready : Bool) → (k places : ℕ) → Found
-  listAnswer ready k places = cond (eqb (listRefusal ready) 0) (Found.Hits (length (shown ready k places))) (Found.Refused (listRefusal ready))
+  -- the list that it writes
+  abbrev pub shown : (k : ℕ) → Listed → List (ℕ × Float)
+  shown k (Listed.Hits m) = chosen k
+  shown k Listed.Nan = []
+  shown k Listed.Unable = []
 
 -- at most 65,536 slots, of a width that there is, under a query that can be rotated
 unfoldable pub ready : (slots width working entries : ℕ) → Bool

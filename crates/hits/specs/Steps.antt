@@ -1,20 +1,22 @@
 -- Words of the contracts on the way to the list.
 use mathlib.Core.Path.{_≡_}
-use mathlib.Core.Bool.{Bool, true, not, cond, _&&_}
+use mathlib.Core.Bool.{Bool, true, false, not, cond, _&&_}
 use mathlib.Core.List.{List, map}
 use mathlib.Core.Option.{none, some}
-use Prim.Native.Nat.{ℕ, min, _<_}
+use Prim.Native.Nat.{ℕ, zero, suc, min, _<_}
+use lib.Dec.{ltb}
 use lib.ListN.{length, take, drop, getD, set}
 use lib.Ieee.{Float, nan, isNan}
 use Rattle.pattern.specs.Binary32.{+0}
-use Rattle.lists.specs.Lists.{tab, over}
+use Rattle.lists.specs.Lists.{tab, over, below}
 use Rattle.encode.specs.declared.Header.{Header}
 use Rattle.score.specs.Score.{slotScore}
 use Rattle.score.specs.Order.{orderNumber}
 use Rattle.choose_slots.specs.Slots.{listedWithin}
-use Rattle.index.specs.declared.Found.{Found}
+use Rattle.hits.specs.declared.Listed.{Listed}
+use Rattle.hits.specs.declared.Listed.the-variants as Listed
 use Rattle.index.specs.State.{stageAt}
-use Rattle.lists.specs.Keep.{any}
+use Rattle.lists.specs.Keep.{any, keep}
 use Rattle.scan.specs.Scan.{takesPart}
 use Rattle.hits.specs.Hits.{scoredSlots, shown, listAnswer}
 
@@ -59,8 +61,18 @@ pub record WritesHits (all : List Float) (orders : List ℕ) (k : ℕ) (slots ne
   pub slots-in : next ≡ over (listedWithin orders k (take (min (length slots) (length scores)) slots)) slots
   pub scores-in : after ≡ over (map (λ i. getD all i +0) (listedWithin orders k (take (min (length slots) (length scores)) slots))) scores
 
+-- one of the slots below n takes part
+unfoldable pub anyTakesPart : (marks : List ℕ) → (n : ℕ) → Bool
+anyTakesPart marks n = ltb 0 (length (keep (takesPart marks) (below n)))
+
+-- the answer where m hits are written, by whether a slot takes part: if one does, there is a hit, so no hit says that places are too few
+abbrev pub countAnswer : (m : ℕ) → (any : Bool) → Listed
+countAnswer zero true = Listed.Unable
+countAnswer zero false = Listed.Hits 0
+countAnswer (suc m) b = Listed.Hits (suc m)
+
 -- What the call promises where it can be made.
-pub record ListsHits (score : ℕ → Float) (marks : List ℕ) (n k : ℕ) (slots next : List ℕ) (scores after : List Float) (r : Found) : Type 0 where
+pub record ListsHits (score : ℕ → Float) (marks : List ℕ) (n k : ℕ) (slots next : List ℕ) (scores after : List Float) (r : Listed) : Type 0 where
   pub answers : r ≡ listAnswer score marks n true k (min (length slots) (length scores))
-  pub slots-in : next ≡ over (map (λ e. e .0) (shown score marks n true k (min (length slots) (length scores)))) slots
-  pub scores-in : after ≡ over (map (λ e. e .1) (shown score marks n true k (min (length slots) (length scores)))) scores
+  pub slots-in : next ≡ over (map (λ e. e .0) (shown score marks n k r)) slots
+  pub scores-in : after ≡ over (map (λ e. e .1) (shown score marks n k r)) scores

@@ -15,9 +15,16 @@ ghost use Rattle.unit.specs.Calls.{rotatable};
 ghost use Rattle.index.specs.State.{headerOf};
 ghost use Rattle.scan.specs.Scan.{takesPart};
 ghost use Rattle.hits.specs.Hits.{scoreAt, listAnswer, shown, ready};
-ghost use Rattle.hits.specs.Steps.{scorePrepared, Scores, EntersSlot, EntersSlots, WritesHits, ListsHits};
-use index::Found;
+ghost use Rattle.hits.specs.Steps.{scorePrepared, Scores, EntersSlot, EntersSlots, WritesHits, anyTakesPart, countAnswer, ListsHits};
 use index::Index;
+
+// What `list` answers: how many hits are in their places; that a score is NaN; or that it is unable to list, for more than 65,536 slots, a width that there
+// is not, a query too short, or too few places. The refusals of a search are its callers' to say.
+pub enum Listed {
+    Hits(usize),
+    Nan,
+    Unable,
+}
 
 // ---- whether the call can be made
 
@@ -267,6 +274,33 @@ fn write_hits(all: &[f32], orders: &[u32], k: usize, slots: &mut [u32], scores: 
     n
 }
 
+// Whether one of the slots below n takes part.
+fn is_any_marked(marks: &[u8], n: usize) -> bool
+    ensures { λ r. ⌜ r ≡ anyTakesPart (now (marks .entry)) n ⌝ }
+{
+    let mut i = 0;
+    while i < n {
+        if is_marked(marks, i) {
+            return true;
+        }
+        i += 1;
+    }
+    false
+}
+
+// The answer where so many hits were written. None is written where no slot takes part, and also where places are too few for those that do.
+fn count_answer(hits: usize, marks: &[u8], n: usize) -> Listed
+    ensures { λ r. ⌜ r ≡ countAnswer hits (anyTakesPart (now (marks .entry)) n) ⌝ }
+{
+    if 0 < hits {
+        return Listed::Hits(hits);
+    }
+    if is_any_marked(marks, n) {
+        return Listed::Unable;
+    }
+    Listed::Hits(0)
+}
+
 // The call where it can be made, in working arrays that have room for the slots.
 fn list_in(
     index: Index,
@@ -281,7 +315,7 @@ fn list_in(
     scores: &mut [f32],
     all: &mut [f32],
     orders: &mut [u32],
-) -> Found
+) -> Listed
     requires { ⌜ ready (index .n) (index .bits) (index .«working_dim») (length (now query)) ≡ true ⌝ }
     requires { ⌜ (index .n ≤ length (now all)) × (index .n ≤ length (now orders)) ⌝ }
     ensures { λ r. ⌜
@@ -301,13 +335,13 @@ fn list_in(
         all,
         orders,
     ) {
-        return Found::Refused(12);
+        return Listed::Nan;
     }
     let hits = write_hits(&all[0..n], &orders[0..n], k, slots, scores);
-    Found::Hits(hits)
+    count_answer(hits, marks, n)
 }
 
-// The hits of the marked slots in the first places of `slots` and `scores`, or the number of the refusal.
+// The hits of the marked slots in the first places of `slots` and `scores`, or none where it answers why not.
 pub fn list(
     index: Index,
     codes: &[u8],
@@ -319,7 +353,7 @@ pub fn list(
     k: usize,
     slots: &mut [u32],
     scores: &mut [f32],
-) -> Found
+) -> Listed
     ensures { λ r. ⌜
         r ≡ listAnswer (scoreAt (headerOf index) (now (codes .entry)) (now (scales .entry)) (now (codes2 .entry)) (now (scales2 .entry))
         (queryOf (now (query .entry))))
@@ -328,16 +362,14 @@ pub fn list(
     ensures { λ r. ⌜
         now (slots .exit) ≡ over (map (λ e. e .0)
         (shown (scoreAt (headerOf index) (now (codes .entry)) (now (scales .entry)) (now (codes2 .entry)) (now (scales2 .entry)) (queryOf (now (query .entry))))
-        (now (marks .entry)) (index .n) (ready (index .n) (index .bits) (index .«working_dim») (length (now (query .entry)))) k
-        (min (length (now (slots .entry))) (length (now (scores .entry)))))) (now (slots .entry)) ⌝ }
+        (now (marks .entry)) (index .n) k r)) (now (slots .entry)) ⌝ }
     ensures { λ r. ⌜
         now (scores .exit) ≡ over (map (λ e. e .1)
         (shown (scoreAt (headerOf index) (now (codes .entry)) (now (scales .entry)) (now (codes2 .entry)) (now (scales2 .entry)) (queryOf (now (query .entry))))
-        (now (marks .entry)) (index .n) (ready (index .n) (index .bits) (index .«working_dim») (length (now (query .entry)))) k
-        (min (length (now (slots .entry))) (length (now (scores .entry)))))) (now (scores .entry)) ⌝ }
+        (now (marks .entry)) (index .n) k r)) (now (scores .entry)) ⌝ }
 {
     if !is_ready(index, query.len()) {
-        return Found::Refused(13);
+        return Listed::Unable;
     }
     // Clearing working arrays for 65,536 slots would take longer than a search of a few.
     if index.n <= 1024 {

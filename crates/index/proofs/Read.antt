@@ -22,7 +22,7 @@ use Rattle.index.specs.declared.Made.the-variants as Made
 use Rattle.index.specs.Arrays.{Arrays}
 use Rattle.index.specs.State.{Mark, dead, unkeyed, keyed, Slot, isLive, live, capacity, stateOf, recordOf, overlay, withMark}
 use Rattle.index.specs.Fit.{between, fit}
-use Rattle.index.specs.Step.{firstOf, oneMore, rising, compacted}
+use Rattle.index.specs.Step.{firstOf, keyOfMark, oneMore, rising, compacted}
 use Rattle.index.specs.Sound.{blockLength, Shaped, AllShaped, marks, OnceEach, Ranged, Sound}
 use Rattle.index.specs.Form.{formOf, stagesAt, secondAt, keysAt, endAt}
 use Rattle.index.specs.Read.{versionIn, formIn, dimIn, countIn, workingField, headerIn, headFault, stageFrom, wellKeyed, keyFrom, markFrom, firstLength, secondLength, stagesIn, secondIn, tableIn, tableLength, statedEnd, tailIn, entriesIn, slotIn, slotsIn, stateIn, readRefusal, readUnless, readInto}
@@ -150,6 +150,10 @@ mark-live : (o : Option ℕ) → isLive (markFrom o) ≡ true
 mark-live none = refl
 mark-live (some k) = refl
 
+pub mark-key : (o : Option ℕ) → keyOfMark (markFrom o) ≡ o
+mark-key none = refl
+mark-key (some k) = refl
+
 mark-word : (o : Option ℕ) → unkeyedWord (markFrom o) ≡ 0
 mark-word none = refl
 mark-word (some k) = refl
@@ -157,10 +161,11 @@ mark-word (some k) = refl
 -- ---- the value
 
 module _ (file : List ℕ) where
-  abbrev loose : List Slot
+  -- the slots before their positions rise
+  abbrev pub loose : List Slot
   loose = tab (slotIn file) (countIn file)
 
-  loose-live : Each (λ s. live s ≡ true) loose
+  pub loose-live : Each (λ s. live s ≡ true) loose
   unfolding slotIn
   loose-live = each-tab (λ s. live s ≡ true) (slotIn file) (countIn file) (λ i l. mark-live (keyFrom (entriesIn file) i))
 

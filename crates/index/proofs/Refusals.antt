@@ -1,15 +1,22 @@
--- A refused call leaves the record and the arrays as they were.
+-- A refused call leaves the record and the arrays as they were; and no refusal is 0.
 use mathlib.Core.Path.{_≡_, refl, sym, ap, _∙_, subst}
-use mathlib.Core.Bool.{Bool, true, false}
+use mathlib.Core.Bool.{Bool, true, false, not, _&&_}
+use mathlib.Core.List.{List, [], _∷_, map}
 use mathlib.Core.Option.{Option, none, some}
-use Prim.Native.Nat.{ℕ, zero, suc}
-use lib.ListN.{getElem?}
-use lib.Dec.{T}
+use Prim.Native.Nat.{ℕ, zero, suc, _<_}
+use native.Mathlib.Omega.{arith}
+use lib.ListN.{length, getElem?}
+use lib.Dec.{T, ltb, eqb}
+use lib.Ieee.{isNan}
+use Rattle.choose.specs.Choose.{choose}
+use Rattle.encode.specs.declared.Header.{Header}
+use Rattle.encode.specs.Coded.{fault}
 use Rattle.index.specs.declared.Index.{Index}
 use Rattle.index.specs.Arrays.{Arrays}
-use Rattle.index.specs.State.{Mark, keyed, State, headerOf, capacity, stateOf, recordOf, overlay}
+use Rattle.index.specs.State.{Mark, keyed, Slot, State, headerOf, capacity, stateOf, recordOf, overlay}
+use Rattle.index.specs.Codec.{tiny, scoreOf}
 use Rattle.index.specs.Fit.{fit}
-use Rattle.index.specs.Step.{Op, setBits, add, addKeyed, addMulti, relabel, remove, removeAt, keyOf, contains, slotOf, enable, score, search, searchKeyed, searchCascade, compact, fileLength, write, Answer, refused, done, flag, slot, maybeSlot, maybeKey, scoreIs, hits, keyHits, size, bytes, liveFrom, slotHolding, positionOf, Item, Outcome, answered, guarded, appended, remarked, widthSet, step}
+use Rattle.index.specs.Step.{Op, setBits, add, addKeyed, addMulti, relabel, remove, removeAt, keyOf, contains, slotOf, enable, score, search, searchKeyed, searchCascade, compact, fileLength, write, Answer, refused, done, flag, slot, maybeSlot, maybeKey, scoreIs, hits, keyHits, size, bytes, firstOf, when, unless, Cell, liveFrom, slotHolding, positionOf, Item, Query, Hit, hitsOf, rank, bySlot, shortResult, queryRefusal, candidates, wide, fileBytes, Outcome, searched, searchedCascade, scoreAnswer, answered, guarded, appended, remarked, widthSet, step}
 use Rattle.index.specs.Call.{call}
 use Rattle.index.proofs.Fits.{overlay-self, record-self}
 
@@ -94,3 +101,96 @@ refused-unchanged x a op n e = go (fit x a) refl
           index = rw f (ap recordOf same ∙ record-self x a f);
           arrays = rw f (ap (λ (t : State). overlay a (t .slots)) same ∙ overlay-self x a f);
         }
+
+-- ---- no refusal is 0, so that a call for C can answer 0 where there is none
+
+-- a refusal's number, and 1 for any other answer
+abbrev numberOf : Answer → ℕ
+numberOf (refused n) = n
+numberOf done = 1
+numberOf (flag b) = 1
+numberOf (slot i) = 1
+numberOf (maybeSlot o) = 1
+numberOf (maybeKey o) = 1
+numberOf (scoreIs x) = 1
+numberOf (hits xs) = 1
+numberOf (keyHits xs) = 1
+numberOf (size n) = 1
+numberOf (bytes bs) = 1
+
+abbrev Numbered : Outcome → Type 0
+Numbered o = 0 < numberOf (o .answer)
+
+unless-numbered : (n : ℕ) (b : Answer) → 0 < numberOf b → 0 < numberOf (unless n b)
+unless-numbered zero b h = h
+unless-numbered (suc n) b h = omega arith
+
+score-numbered : (h : Header) (q : Query) (o : Option Slot) → 0 < numberOf (scoreAnswer h q o)
+unfolding scoreAnswer
+score-numbered h q none = unless-numbered (firstOf (fault h (q .vector) ∷ 9 ∷ [])) done (omega arith)
+score-numbered h q (some t) =
+    let x = scoreOf h q (t .code) in
+    unless-numbered (firstOf (fault h (q .vector) ∷ when (tiny h) 10 ∷ when (isNan x) 12 ∷ [])) (scoreIs x) (omega arith)
+
+searched-numbered : (h : Header) (cs : List Cell) (q : Query) (k places : ℕ) (shown : List Hit → Answer) → ((xs : List Hit) → 0 < numberOf (shown xs)) →
+    0 < numberOf (searched h cs q k places shown)
+unfolding searched
+searched-numbered h cs q k places shown above =
+    let xs = hitsOf h q cs in
+    unless-numbered (firstOf (shortResult k (length cs) places ∷ queryRefusal h q xs ∷ [])) (shown (choose rank k xs)) (above (choose rank k xs))
+
+cascade-numbered : (s : State) (cs : List Cell) (q : Query) (k r places : ℕ) → 0 < numberOf (searchedCascade s cs q k r places)
+unfolding searchedCascade
+cascade-numbered s cs q k r places =
+    let xs = hitsOf (s .header) q (candidates (s .header) q (wide k r (length cs)) cs) in
+    unless-numbered (firstOf (shortResult k (length cs) places ∷ when (not (s .cascade && eqb (s .header .bits) 4)) 11 ∷ queryRefusal (s .header) q xs ∷ []))
+    (hits (map bySlot (choose rank k xs))) (omega arith)
+
+module _ (s : State) where
+  guarded-numbered : (n : ℕ) (o : Outcome) → Numbered o → Numbered (guarded s n o)
+  unfolding guarded
+  guarded-numbered zero o h = h
+  guarded-numbered (suc n) o h = omega arith
+
+  appended-numbered : (room : ℕ) (m : Mark) (v : Item) → Numbered (appended room s m v)
+  unfolding appended
+  appended-numbered room m v = guarded-numbered _ _ (omega arith)
+
+  marked-numbered : (b : Bool) (n : ℕ) (f : Mark → Mark) → Numbered (remarked s b n f)
+  unfolding remarked
+  marked-numbered true n f = guarded-numbered n _ (omega arith)
+  marked-numbered false n f = omega arith
+
+  step-numbered : (room : ℕ) (op : Op) → Numbered (step room s op)
+  unfolding step widthSet
+  step-numbered room (setBits w) = guarded-numbered _ _ (omega arith)
+  step-numbered room (add v) = appended-numbered room _ v
+  step-numbered room (addKeyed j v) = either-way Numbered (slotHolding j 0 (liveFrom 0 (s .slots))) _ _ (λ e. appended-numbered room (keyed j 0) v) (λ i e. guarded-numbered _ _ (omega arith))
+  step-numbered room (addMulti j v) = appended-numbered room _ v
+  step-numbered room (relabel j k) = marked-numbered _ _ _
+  step-numbered room (remove j) = marked-numbered _ _ _
+  step-numbered room (removeAt j i) = either-way Numbered (positionOf j (getElem? (s .slots) i)) _ _ (λ e. omega arith) (λ gap e. marked-numbered true _ _)
+  step-numbered room (keyOf i) = omega arith
+  step-numbered room (contains j) = omega arith
+  step-numbered room (slotOf j i) = omega arith
+  step-numbered room enable = guarded-numbered _ _ (omega arith)
+  step-numbered room (score i q) = score-numbered _ q _
+  step-numbered room (search q k places) = searched-numbered _ _ q k places _ (λ xs. omega arith)
+  step-numbered room (searchKeyed q k places) = searched-numbered _ _ q k places _ (λ xs. omega arith)
+  step-numbered room (searchCascade q k r places) = cascade-numbered s _ q k r places
+  step-numbered room compact = omega arith
+  step-numbered room fileLength = omega arith
+  step-numbered room (write places) =
+      let bs = fileBytes (s .header) (liveFrom 0 (s .slots)) in
+      unless-numbered (when (ltb places (length bs)) 13) (bytes bs) (omega arith)
+
+pub never-0 : (x : Index) (a : Arrays) (op : Op) → call x a op .answer ≡ refused 0 → ⊥
+unfolding call
+never-0 x a op e = omega (arith, ap numberOf e, above)
+  where
+    go : (b : Bool) → fit x a ≡ b → 0 < numberOf (call x a op .answer)
+    go false f = rw f (omega arith)
+    go true f = rw f (step-numbered (stateOf x a) (capacity (headerOf x) a) op)
+
+    above : 0 < numberOf (call x a op .answer)
+    above = go (fit x a) refl

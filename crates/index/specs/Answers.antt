@@ -1,12 +1,14 @@
 -- Document 01: "Where an answer is an enum, a definition gives this paper's number and values for each case of the enum." Here they are, one for each enum.
 -- A call that may change the index hands back the new record, and its arrays are those at its end; a refusal and a No hand back none: the caller keeps the old one.
+use mathlib.Core.Path.{_≡_}
 use mathlib.Core.Bool.{true, false}
-use mathlib.Core.List.{List, map}
+use mathlib.Core.List.{List}
 use mathlib.Core.Option.{none, some}
 use Prim.Native.Nat.{ℕ}
-use lib.ListN.{length}
+use lib.ListN.{getD, drop}
 use lib.Ieee.{Float}
-use Rattle.lists.specs.Lists.{over}
+use Rattle.pattern.specs.Binary32.{+0}
+use Rattle.lists.specs.Lists.{tab}
 use Rattle.score.specs.declared.Scored.{Scored}
 use Rattle.score.specs.declared.Scored.the-variants as Scored
 use Rattle.index.specs.declared.Index.{Index}
@@ -73,50 +75,37 @@ abbrev pub lengthIs : Written → Answer
 lengthIs (Written.Bytes n) = size n
 lengthIs (Written.Refused n) = refused n
 
--- ---- searches and writing, which hand a list or bytes back in lent slices: those stand in the first places, and all further places are kept
+-- ---- searches and writing, which hand a list or bytes back in the first places of lent slices: the enum says in how many
 
--- by what these calls answer: a refusal, hits or bytes. They answer nothing else, which is what `other` is for.
-abbrev pub byAnswer : {A : Type 0} → (refusal : ℕ → A) → (list : List (ℕ × Float) → A) → (file : List ℕ → A) → (other : A) → Answer → A
-byAnswer f g h o (refused n) = f n
-byAnswer f g h o (hits xs) = g xs
-byAnswer f g h o (keyHits xs) = g xs
-byAnswer f g h o (bytes bs) = h bs
-byAnswer f g h o done = o
-byAnswer f g h o (flag b) = o
-byAnswer f g h o (slot i) = o
-byAnswer f g h o (maybeSlot i) = o
-byAnswer f g h o (maybeKey k) = o
-byAnswer f g h o (scoreIs x) = o
-byAnswer f g h o (size n) = o
+-- how many places the answer takes: none for a refusal
+abbrev pub hitCount : Found → ℕ
+hitCount (Found.Hits m) = m
+hitCount (Found.Refused n) = 0
 
--- what a search hands back and leaves: the slices hold numbers of slots (or keys, for a keyed search) and scores
-pub record Filed : Type 0 where
-  pub index : Index
-  pub arrays : Arrays
-  pub answer : Found
-  pub numbers : List ℕ
-  pub scores : List Float
+abbrev pub byteCount : Written → ℕ
+byteCount (Written.Bytes m) = m
+byteCount (Written.Refused n) = 0
 
-abbrev pub filed : Index → Arrays → Found → (numbers : List ℕ) → (scores : List Float) → Filed
-filed x a r ns ss = record { index = x; arrays = a; answer = r; numbers = ns; scores = ss }
+-- The first m entries of a slice, and the first m of two in pairs. An m past the end counts too, so that the list tells m.
+abbrev pub firstEntries : (m : ℕ) → List ℕ → List ℕ
+firstEntries m xs = tab (λ i. getD xs i 0) m
 
-abbrev pub files : Result → (numbers : List ℕ) → (scores : List Float) → Filed
-files r ns ss =
-    let left = filed (r .index) (r .arrays) in
-    byAnswer (λ n. left (Found.Refused n) ns ss) (λ xs. left (Found.Hits (length xs)) (over (map (λ e. e .0) xs) ns) (over (map (λ e. e .1) xs) ss))
-    (λ bs. left (Found.Refused 0) ns ss) (left (Found.Refused 0) ns ss) (r .answer)
+abbrev pub firstPairs : (m : ℕ) → List ℕ → List Float → List (ℕ × Float)
+firstPairs m xs ys = tab (λ i. (getD xs i 0, getD ys i +0)) m
 
--- what writing hands back and leaves
-pub record Stored : Type 0 where
-  pub index : Index
-  pub arrays : Arrays
-  pub answer : Written
-  pub file : List ℕ
+-- by what the slices hold after the call: a search's the slots and their scores, a keyed search's the keys and their scores
+abbrev pub found : Found → (slots : List ℕ) → (scores : List Float) → Answer
+found (Found.Hits m) ns ss = hits (firstPairs m ns ss)
+found (Found.Refused n) ns ss = refused n
 
-abbrev pub stored : Index → Arrays → Written → (file : List ℕ) → Stored
-stored x a r f = record { index = x; arrays = a; answer = r; file = f }
+abbrev pub foundKeyed : Found → (keys : List ℕ) → (scores : List Float) → Answer
+foundKeyed (Found.Hits m) ns ss = keyHits (firstPairs m ns ss)
+foundKeyed (Found.Refused n) ns ss = refused n
 
-abbrev pub stores : Result → (file : List ℕ) → Stored
-stores r f =
-    let left = stored (r .index) (r .arrays) in
-    byAnswer (λ n. left (Written.Refused n) f) (λ xs. left (Written.Refused 0) f) (λ bs. left (Written.Bytes (length bs)) (over bs f)) (left (Written.Refused 0) f) (r .answer)
+abbrev pub wrote : Written → (file : List ℕ) → Answer
+wrote (Written.Bytes m) file = bytes (firstEntries m file)
+wrote (Written.Refused n) file = refused n
+
+-- 01: "Result places past the answer keep their contents.", the answer being in the first m
+abbrev pub LaterKept : {A : Type 0} → (m : ℕ) → (before after : List A) → Type 0
+LaterKept m before after = drop m after ≡ drop m before

@@ -5,14 +5,14 @@ use mathlib.Core.List.{List, map, map-map}
 use Prim.Native.Nat.{ℕ, zero, suc, _+_, _≤_}
 use native.Mathlib.Numerals.{add-one}
 use native.Mathlib.Omega.{arith}
-use lib.ListN.{length, getD, length-map}
+use lib.ListN.{length, getD, length-map, List·getD-eq-default}
 use lib.Dec.{ltb}
 use borrow.Author.Tests.{lt-ltb}
 use Rattle.lists.specs.Lists.{tab, below}
 use Rattle.lists.specs.Keep.{bit, keep, count, Each}
 use Rattle.lists.proofs.Laws.{length-tab}
 use Rattle.lists.proofs.Keep.{count-length, count-map, count-keep-implied, length-keep, each-keep}
-use Rattle.lists.proofs.Front.{each-map, each-tab, tab-each}
+use Rattle.lists.proofs.Front.{each-map, each-tab, tab-each, count-past}
 use Rattle.encode.specs.declared.Header.{Header}
 use Rattle.encode.specs.Header.{blockSize}
 use Rattle.index.specs.declared.Index.{Index}
@@ -47,6 +47,22 @@ count-one p i = rw (add-one i) (count-last p (λ j. j) i)
 
 pub count-few : (p : ℕ → Bool) (n : ℕ) → count p (below n) ≤ n
 count-few p n = omega (arith, count-length p (below n), length-tab (λ (i : ℕ). i) n)
+
+-- ---- past the end of `alive` all slots are dead
+
+module _ (keyed : List Bool) (alive : List ℕ) (i n : ℕ) (end : length alive ≤ i) (l : i ≤ n) where
+  past-dead : (j : ℕ) → i ≤ j → liveAt alive j ≡ false
+  past-dead j m =
+      let beyond : length alive ≤ j = omega (arith, end, m) in
+      rw (List·getD-eq-default alive 0 beyond)
+
+  pub counts-end : countsOf keyed alive i ≡ countsOf keyed alive n
+  unfolding countsOf
+  counts-end =
+      λ t. record {
+        live = sym (count-past (liveAt alive) i past-dead n l) t;
+        keyed = sym (count-past (entryAt keyed alive) i (λ j m. ap (λ (b : Bool). b && getD keyed j false) (past-dead j m)) n l) t;
+      }
 
 -- ---- marks
 

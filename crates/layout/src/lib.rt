@@ -75,7 +75,7 @@ pub fn has_entry(keyed: &[bool], alive: &[u8], slot: usize) -> bool
     false
 }
 
-// Both counts of the first n slots, in one walk.
+// Both counts of the first n slots, in one walk. Past the end of `alive` all slots are dead: the walk ends there.
 pub fn count_slots(keyed: &[bool], alive: &[u8], n: usize) -> Counts
     ensures { λ r. ⌜ r ≡ countsOf (now (keyed .entry)) (now (alive .entry)) n ⌝ }
 {
@@ -83,6 +83,9 @@ pub fn count_slots(keyed: &[bool], alive: &[u8], n: usize) -> Counts
     let mut entries: usize = 0;
     let mut i: usize = 0;
     while i < n {
+        if alive.len() <= i {
+            break;
+        }
         live += one_if(marks::is_live(alive, i));
         entries += one_if(has_entry(keyed, alive, i));
         i += 1;

@@ -2,12 +2,12 @@
 use mathlib.Core.Path.{_≡_, refl, sym, ap, _∙_}
 use mathlib.Core.Logic.{_≢_}
 use mathlib.Core.List.{List, [], _∷_}
-use Prim.Native.Nat.{ℕ, zero, suc, _<_}
+use Prim.Native.Nat.{ℕ, zero, suc, _+_, _-_, _<_}
 use native.Mathlib.Nat.{not-suc-le-zero, le-of-suc-le-suc}
-use native.Mathlib.Decide.{ℕ-discrete}
+use native.Mathlib.Decide.{ℕ-discrete, decLt}
 use native.Mathlib.Omega.{arith}
-use lib.ListN.{length, getD, set, length-set}
-use lib.Seq.{getD-set-same, getD-set-other, ext-getD}
+use lib.ListN.{length, drop, getD, set, length-set}
+use lib.Seq.{getD-set-same, getD-set-other, getD-drop, ext-getD}
 use Rattle.lists.specs.Lists.{tab, zipWith}
 use Rattle.lists.proofs.Laws.{length-tab, getD-tab, tab-getD}
 
@@ -23,6 +23,17 @@ module _ {A : Type 0} where
 
   pub entries : (xs : List A) (d : A) (n : ℕ) → length xs ≡ n → xs ≡ tab (λ i. getD xs i d) n
   entries xs d n e = rw e at (sym (tab-getD xs d))
+
+  -- the first m entries and the later ones are all there is of a list
+  pub first-and-later : (d : A) (m : ℕ) (xs ys : List A) → length xs ≡ length ys → tab (λ i. getD xs i d) m ≡ tab (λ i. getD ys i d) m → drop m xs ≡ drop m ys → xs ≡ ys
+  first-and-later d m xs ys n e f = ext-getD d xs ys n (λ i l. at i (decLt i m))
+    where
+      at : (i : ℕ) → Dec (i < m) → getD xs i d ≡ getD ys i d
+      at i (yes l) = sym (getD-tab (λ j. getD xs j d) m i d l) ∙ ap (λ (zs : List A). getD zs i d) e ∙ getD-tab (λ j. getD ys j d) m i d l
+      at i (no l) =
+          let j : m + (i - m) ≡ i = omega arith in
+          ap (λ (k : ℕ). getD xs k d) (sym j) ∙ sym (getD-drop m xs (i - m) d) ∙ ap (λ (zs : List A). getD zs (i - m) d) f ∙ getD-drop m ys (i - m) d ∙
+          ap (λ (k : ℕ). getD ys k d) j
 
 module _ {A B C : Type 0} (f : A → B → C) where
   pub length-zip : (xs : List A) (ys : List B) → length ys ≡ length xs → length (zipWith f xs ys) ≡ length xs

@@ -1,17 +1,18 @@
 -- The front of a list and its rest: what stands where after `over`, and what a list is by its entries.
 use mathlib.Core.Path.{_≡_, refl, sym, ap, _∙_}
 use mathlib.Core.Bool.{Bool, true, false}
-use mathlib.Core.List.{List, [], _∷_, _++_, map, map-append, map-id}
+use mathlib.Core.Logic.{⊎-elim}
+use mathlib.Core.List.{List, [], _∷_, _++_, map, map-append, map-id, append-nil}
 use Prim.Native.Nat.{ℕ, zero, suc, _+_, _-_, _≤_, _<_}
-use native.Mathlib.Nat.{sub-zero}
+use native.Mathlib.Nat.{sub-zero, eq-or-lt-of-le, le-of-suc-le-suc}
 use native.Mathlib.Omega.{arith}
 use native.Mathlib.Decide.{decLt}
 use lib.ListN.{length, getD, set, take, drop, length-append, List·getD-append, take-append-drop}
-use lib.Seq.{ext-getD, getD-drop, getD-append-add, length-take-le, take-at, drop-append-add, drop-drop, sets-eq, length-sets}
-use Rattle.lists.specs.Lists.{tab, over, splice}
-use Rattle.lists.specs.Keep.{bit, count, Each}
+use lib.Seq.{ext-getD, getD-drop, getD-append-add, length-take-le, take-at, drop-at, drop-append-add, drop-drop, sets-eq, length-sets}
+use Rattle.lists.specs.Lists.{tab, over, splice, below}
+use Rattle.lists.specs.Keep.{bit, keep, count, Each}
 use Rattle.lists.proofs.Laws.{length-tab, getD-tab, tab-getD, tab-ext, length-over}
-use Rattle.lists.proofs.Keep.{each-append}
+use Rattle.lists.proofs.Keep.{each-append, keep-append, length-keep}
 
 module _ {ℓ} {A : Type ℓ} where
   pub getD-front : (ys xs : List A) (i : ℕ) (d : A) → i < length ys → getD (over ys xs) i d ≡ getD ys i d
@@ -50,8 +51,27 @@ module _ {ℓ} {A : Type ℓ} where
   unfolding over
   take-over ys xs m e = take-at ys (drop (length ys) xs) m (sym e)
 
+  -- and what is left after it
+  pub drop-over : (ys xs : List A) (m : ℕ) → m ≡ length ys → drop m (over ys xs) ≡ drop m xs
+  unfolding over
+  drop-over ys xs m e = drop-at ys (drop (length ys) xs) m (sym e) ∙ ap (λ (n : ℕ). drop n xs) (sym e)
+
   pub part-tab : (f : ℕ → A) (n : ℕ) (xs : List A) → take (n - 0) (over (tab f n) xs) ≡ tab f n
   part-tab f n xs = take-over (tab f n) xs (n - 0) (sub-zero n ∙ sym (length-tab f n))
+
+  -- two lists by their first m entries and the rest
+  pub front-rest : (m : ℕ) (d : A) (xs ys : List A) → length xs ≡ length ys → ((i : ℕ) → i < m → getD xs i d ≡ getD ys i d) → drop m xs ≡ drop m ys → xs ≡ ys
+  front-rest m d xs ys e front rest = ext-getD d xs ys e at
+    where
+      at : (i : ℕ) → i < length xs → getD xs i d ≡ getD ys i d
+      at i l =
+          elim (decLt i m) [
+            | yes k ↦ front i k
+            | no k ↦
+                let j : m + (i - m) ≡ i = omega arith in
+                ap (λ (n : ℕ). getD xs n d) (sym j) ∙ sym (getD-drop m xs (i - m) d) ∙ ap (λ (zs : List A). getD zs (i - m) d) rest
+                ∙ getD-drop m ys (i - m) d ∙ ap (λ (n : ℕ). getD ys n d) j
+          ]
 
   -- ---- some places
 
@@ -126,3 +146,17 @@ each-count {Q = Q} p (x ∷ xs) h l = go (p x) refl (each-count p xs (h .1))
     go : (b : Bool) → p x ≡ b → (0 < count p xs → Q) → Q
     go true e ih = h .0 e
     go false e ih = ih (omega (arith, ap bit e))
+
+-- ---- numbers from i on that do not pass: those below i say it all
+
+module _ (p : ℕ → Bool) (i : ℕ) (past : (j : ℕ) → i ≤ j → p j ≡ false) where
+  pub keep-past : (n : ℕ) → i ≤ n → keep p (below n) ≡ keep p (below i)
+  keep-past zero l = let e : 0 ≡ i = omega arith in ap (λ (m : ℕ). keep p (below m)) e
+  keep-past (suc n) l =
+      ⊎-elim
+      (λ (e : i ≡ suc n). ap (λ (m : ℕ). keep p (below m)) (sym e))
+      (λ (m : i < suc n). keep-append p (below n) (n ∷ []) ∙ rw (past n (le-of-suc-le-suc m)) (append-nil (keep p (below n))) ∙ keep-past n (le-of-suc-le-suc m))
+      (eq-or-lt-of-le l)
+
+  pub count-past : (n : ℕ) → i ≤ n → count p (below n) ≡ count p (below i)
+  count-past n l = sym (length-keep p (below n)) ∙ ap length (keep-past n l) ∙ length-keep p (below i)

@@ -1,6 +1,6 @@
 -- Laws of `keep`, `count`, `Each` and `numbered`, and of parts of a list, for lists of any type.
 use mathlib.Core.Path.{_≡_, refl, ap, sym, _∙_, subst}
-use mathlib.Core.Bool.{Bool, true, false, cond}
+use mathlib.Core.Bool.{Bool, true, false, cond, _&&_}
 use mathlib.Core.List.{List, [], _∷_, _++_, map, append-nil, List·Memᴰ, List·Memᴰ·head, List·Memᴰ·tail}
 use Prim.Native.Nat.{ℕ, zero, suc, _+_, _≤_, _<_}
 use native.Mathlib.Nat.{add-zero, suc-add, add-suc}
@@ -31,6 +31,10 @@ module _ {X : Type 0} where
   each-weaken P Q [] f h = tt
   each-weaken P Q (x ∷ xs) f h = (f x (h .0), each-weaken P Q xs f (h .1))
 
+  pub each-both : (P Q : X → Type 0) (xs : List X) → Each P xs → Each Q xs → Each (λ x. P x × Q x) xs
+  each-both P Q [] p q = tt
+  each-both P Q (x ∷ xs) p q = ((p .0, q .0), each-both P Q xs (p .1) (q .1))
+
   pub each-append : (P : X → Type 0) (xs ys : List X) → Each P xs → Each P ys → Each P (xs ++ ys)
   each-append P [] ys h k = k
   each-append P (x ∷ xs) ys h k = (h .0, each-append P xs ys (h .1) k)
@@ -39,6 +43,9 @@ module _ {X : Type 0} where
   each-take P zero xs h = tt
   each-take P (suc n) [] h = tt
   each-take P (suc n) (x ∷ xs) h = (h .0, each-take P n xs (h .1))
+
+  pub each-next : (P : X → Type 0) (i : ℕ) (xs : List X) (d : X) → i < length xs → Each P (take i xs) → P (getD xs i d) → Each P (take (i + 1) xs)
+  each-next P i xs d h k l = rw (add-one i, take-suc xs i d h) (each-append P (take i xs) (getD xs i d ∷ []) k (l, tt))
 
   pub each-drop : (P : X → Type 0) (n : ℕ) (xs : List X) → Each P xs → Each P (drop n xs)
   each-drop P zero xs h = h
@@ -89,6 +96,16 @@ module _ {X : Type 0} where
   keep-none p (x ∷ xs) h = rw (h .0, keep-none p xs (h .1))
 
   -- a stricter test after a laxer one
+  -- one test after another
+  pub keep-both : (p q : X → Bool) (xs : List X) → keep p (keep q xs) ≡ keep (λ x. q x && p x) xs
+  keep-both p q [] = refl
+  keep-both p q (x ∷ xs) = go (q x) (keep-both p q xs)
+    where
+      go : (b : Bool) → keep p (keep q xs) ≡ keep (λ y. q y && p y) xs →
+          keep p (cond b (x ∷ keep q xs) (keep q xs)) ≡ cond (b && p x) (x ∷ keep (λ y. q y && p y) xs) (keep (λ y. q y && p y) xs)
+      go true ih = ap (λ (l : List X). cond (p x) (x ∷ l) l) ih
+      go false ih = ih
+
   pub keep-keep : (p q : X → Bool) (xs : List X) → ((x : X) → p x ≡ true → q x ≡ true) → keep p (keep q xs) ≡ keep p xs
   keep-keep p q [] h = refl
   keep-keep p q (x ∷ xs) h = go (q x) (p x) refl refl (keep-keep p q xs h)

@@ -11,7 +11,8 @@ use lib.ListN.{length}
 use borrow.Author.Tests.{ne-eqb}
 use lib.Ieee.{Float, lt}
 use Rattle.lloyd.specs.Tables.{byWidth, levelsOf, centroidsOf, boundariesOf, zeros64, inPlaces, centroids4, centroids5, centroids6, boundaries4, boundaries5, boundaries6}
-use Rattle.lloyd.specs.Sound.{sound}
+use Rattle.lloyd.specs.Sound.{sound, TablesRule}
+use Rattle.lloyd.proofs.Sound.{sound-at}
 
 -- at a width that is none of the three
 module _ (bits : ℕ) (not-4 : bits ≢ 4) (not-5 : bits ≢ 5) (not-6 : bits ≢ 6) where
@@ -68,8 +69,11 @@ levels-le =
     at-each-width (λ bits. levelsOf bits ≤ 64) (lit≤ tt) (lit≤ tt) (lit≤ tt) (λ bits p q r. rw (no-levels bits p q r) zero-le)
 
 -- the rule over the six tables, computed
-pub tables-sound : (bits : ℕ) → 0 < levelsOf bits → T (sound (boundariesOf bits) (centroidsOf bits))
+tables-sound : (bits : ℕ) → 0 < levelsOf bits → T (sound (boundariesOf bits) (centroidsOf bits))
 unfolding sound boundariesOf centroidsOf levelsOf boundaries4 centroids4 boundaries5 centroids5 boundaries6 centroids6 lt
 tables-sound =
     at-each-width (λ bits. 0 < levelsOf bits → T (sound (boundariesOf bits) (centroidsOf bits))) (λ _. tt) (λ _. tt) (λ _. tt)
     (λ bits p q r h. absurd (not-suc-le-zero (subst (λ (n : ℕ). 0 < n) (no-levels bits p q r) h)))
+
+pub tables-rule : TablesRule
+tables-rule bits some = sound-at (boundariesOf bits) (centroidsOf bits) (tables-sound bits some)

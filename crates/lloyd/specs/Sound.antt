@@ -1,4 +1,4 @@
--- "Tables rise strictly and each boundary lies between its neighbour centroids" (document 01, lloyd.rs), said of any pair of tables.
+-- "Tables rise strictly and each boundary lies between its neighbour centroids" (document 01, lloyd.rs), said of any pair of tables, and of the three pairs.
 use mathlib.Core.Path.{_≡_}
 use Prim.Native.Nat.{ℕ, _+_, _<_}
 use mathlib.Core.Bool.{Bool, true, _&&_}
@@ -7,6 +7,7 @@ use lib.Dec.{eqb}
 use lib.ListN.{length, drop, getD}
 use lib.Ieee.{Float, nan, lt}
 use Rattle.lists.specs.Keep.{every}
+use Rattle.lloyd.specs.Tables.{levelsOf, centroidsOf, boundariesOf}
 
 -- ---- the rule as a test
 
@@ -43,3 +44,7 @@ pub record SoundTables (boundaries centroids : List Float) : Type 0 where
   pub centroids-rise : Rises centroids
   pub above-its-centroid : (i : ℕ) → i < length boundaries → lt (getD centroids i nan) (getD boundaries i nan) ≡ true
   pub below-the-next : (i : ℕ) → i < length boundaries → lt (getD boundaries i nan) (getD centroids (i + 1) nan) ≡ true
+
+-- the rule of the six tables, at each entry
+abbrev pub TablesRule : Type 0
+TablesRule = (bits : ℕ) → 0 < levelsOf bits → SoundTables (boundariesOf bits) (centroidsOf bits)

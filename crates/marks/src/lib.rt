@@ -38,6 +38,9 @@ pub fn mark_live(alive: &mut [u8], n: usize)
 {
     let mut i = 0;
     while i < n {
+        if alive.len() <= i {
+            break;
+        }
         set_live_mark(alive, i, true);
         i += 1;
     }

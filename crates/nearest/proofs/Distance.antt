@@ -6,7 +6,6 @@ use mathlib.Core.Option.{none}
 use Prim.Native.Nat.{ℕ, _-_, _/_, _≤_, _<_}
 use native.Mathlib.Omega.{arith}
 use lib.ListN.{length, take, getD}
-use lib.Dec.{ltb}
 use lib.Ieee.{Float, nan}
 use Rattle.lists.specs.Lists.{tab, over, zipWith, total}
 use Rattle.lists.proofs.Laws.{getD-default, tab-ext, zip-tab}
@@ -34,6 +33,7 @@ use Rattle.encode.specs.Coded.{Code, rotatedOf}
 use Rattle.index.specs.Arrays.{Arrays}
 use Rattle.index.specs.State.{stageAt, slotAt}
 use Rattle.index.specs.Codec.{apart, distanceByTable, tableOf, distance}
+use Rattle.marks.specs.Live.{liveAt}
 use Rattle.nearest.specs.Distances.{distanceAt, past, liveDistance}
 use Rattle.nearest.specs.Lanes.{topOf, laneApart, lanesApart, slotApart}
 use Rattle.nearest.specs.Pairs.{Low}
@@ -143,7 +143,7 @@ module _ (h : Header) (q : Query) (out next : List Float) (r : Float) (t : rotat
 
     slot-measured : (i : ℕ) → slotApart codes alive size tops lanes i ≡ liveDistance h codes alive q i
     unfolding liveDistance slotApart
-    slot-measured i = ap (λ (d : ℕ). cond (ltb 0 (getD alive i 0)) d past) (lanes-distance i)
+    slot-measured i = ap (λ (d : ℕ). cond (liveAt alive i) d past) (lanes-distance i)
 
     -- what is written for all slots
     pub slots-measured : (n : ℕ) (places : List ℕ) → over (tab (slotApart codes alive size tops lanes) n) places ≡ over (tab (liveDistance h codes alive q) n) places

@@ -4,7 +4,7 @@ use mathlib.Core.Bool.{Bool, true, false, cond, _&&_}
 use mathlib.Core.List.{List}
 use Prim.Native.Nat.{ℕ, _-_, _≤_, _<_}
 use native.Mathlib.Omega.{arith}
-use lib.Dec.{leb, ltb, eqb}
+use lib.Dec.{leb, eqb}
 use lib.ListN.{length, take, getD}
 use borrow.Author.Tests.{leb-true, eqb-true}
 use Rattle.lists.specs.Lists.{tab, over}
@@ -17,6 +17,7 @@ use Rattle.unit.proofs.Rotatable.{rotatable-of}
 use Rattle.index.specs.declared.Index.{Index}
 use Rattle.index.specs.State.{headerOf}
 use Rattle.index.specs.Step.{Query}
+use Rattle.marks.specs.Live.{liveAt}
 use Rattle.nearest.specs.Distances.{distanceAt, past, liveDistance}
 use Rattle.nearest.proofs.Distance.{distance-below}
 use Rattle.nearest.specs.declared.Limit.{Limit}
@@ -73,7 +74,7 @@ module _ (x : Index) (codes alive : List ℕ) (q : Query) (places : ℕ) (t : ca
 
   lent-low : Each (λ d. d < 12290) (take (x .n - 0) next)
   unfolding liveDistance
-  lent-low = rw lent-are (each-tab (λ d. d < 12290) (liveDistance (headerOf x) codes alive q) (x .n) (λ i l. go i (ltb 0 (getD alive i 0))))
+  lent-low = rw lent-are (each-tab (λ d. d < 12290) (liveDistance (headerOf x) codes alive q) (x .n) (λ i l. go i (liveAt alive i)))
     where
       go : (i : ℕ) (b : Bool) → cond b (distanceAt (headerOf x) codes q i) past < 12290
       go i true = omega (arith, low i)

@@ -16,7 +16,8 @@ use Rattle.lists.proofs.Front.{each-tab}
 use Rattle.lists.proofs.Keep.{count-same, count-share}
 use Rattle.nearest.specs.Distances.{past}
 use Rattle.nearest.specs.declared.Limit.{Limit}
-use Rattle.nearest.specs.Nearest.{liveSlot, before, isNear, nearMarks}
+use Rattle.marks.specs.Live.{liveAt}
+use Rattle.nearest.specs.Nearest.{before, isNear, nearMarks}
 use Rattle.nearest.specs.Limit.{under, level, Reached, Unreached, Limits, isMarked}
 use Rattle.nearest.proofs.Counting.{count-first, ties-count, some-limit, level-here, level-rises, under-more, under-rises}
 
@@ -40,9 +41,9 @@ ltb-same a b c d f g = elim (decLt a b) [ yes l ↦ rw (lt-ltb a b l, lt-ltb c d
 -- ---- one slot
 
 module _ (distance : ℕ → ℕ) (alive : List ℕ) (n : ℕ) (low : (i : ℕ) → distance i < past) (xs : List ℕ)
-    (are : (i : ℕ) → i < n → getD xs i 0 ≡ cond (liveSlot distance alive n i) (distance i) past) (all : length xs ≡ n) where
+    (are : (i : ℕ) → i < n → getD xs i 0 ≡ cond (liveAt alive i) (distance i) past) (all : length xs ≡ n) where
   abbrev live : ℕ → Bool
-  live = liveSlot distance alive n
+  live = liveAt alive
 
   abbrev at : ℕ → ℕ
   at i = getD xs i 0
@@ -157,8 +158,8 @@ module _ (distance : ℕ → ℕ) (alive : List ℕ) (n : ℕ) (low : (i : ℕ) 
 
 -- as many slots are near as r asks for, or all live ones
 pub near-count : (distance : ℕ → ℕ) (alive : List ℕ) (n : ℕ) → ((i : ℕ) → distance i < past) → (r : ℕ) →
-    count (isNear distance alive n r) (below n) ≡ min r (count (liveSlot distance alive n) (below n))
+    count (isNear distance alive n r) (below n) ≡ min r (count (liveAt alive) (below n))
 near-count distance alive n low r =
-    let f : ℕ → ℕ = λ i. cond (liveSlot distance alive n i) (distance i) past in
+    let f : ℕ → ℕ = λ i. cond (liveAt alive i) (distance i) past in
     let t = some-limit (tab f n) r in
     near-many distance alive n low (tab f n) (λ i l. getD-tab f n i 0 l) (length-tab f n) r (t .0) (t .1)

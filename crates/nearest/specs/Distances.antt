@@ -3,8 +3,7 @@ use mathlib.Core.Bool.{cond}
 use mathlib.Core.List.{List, []}
 use mathlib.Core.Option.{none}
 use Prim.Native.Nat.{ℕ}
-use lib.ListN.{getD}
-use lib.Dec.{ltb}
+use Rattle.marks.specs.Live.{liveAt}
 use Rattle.unit.specs.Brought.{Query}
 use Rattle.encode.specs.declared.Header.{Header}
 use Rattle.index.specs.State.{stageAt}
@@ -20,4 +19,4 @@ past = 12289
 
 -- the distance of a live slot, and `past` for a dead one
 unfoldable pub liveDistance : Header → (codes alive : List ℕ) → Query → ℕ → ℕ
-liveDistance h codes alive q i = cond (ltb 0 (getD alive i 0)) (distanceAt h codes q i) past
+liveDistance h codes alive q i = cond (liveAt alive i) (distanceAt h codes q i) past

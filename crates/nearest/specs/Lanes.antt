@@ -3,9 +3,9 @@ use mathlib.Core.Bool.{cond}
 use mathlib.Core.List.{List}
 use Prim.Native.Nat.{ℕ, _+_, _/_, _%_}
 use lib.ListN.{getD}
-use lib.Dec.{ltb}
 use lib.Ieee.{Float}
 use Rattle.lists.specs.Lists.{tab, total}
+use Rattle.marks.specs.Live.{liveAt}
 use Rattle.pattern.specs.Binary32.{_⊗_}
 use Rattle.lloyd.specs.Quantizer.{quantized}
 use Rattle.codes.specs.Packing.{codeAt}
@@ -34,4 +34,4 @@ bytesApart even odd block n = total (tab (byteApart even odd block) n)
 
 -- of a live slot's block, which has `size` bytes; `past` for a dead slot
 unfoldable pub slotApart : (codes alive : List ℕ) → (size : ℕ) → (tops : List ℕ) → (lanes : ℕ) → ℕ → ℕ
-slotApart codes alive size tops lanes i = cond (ltb 0 (getD alive i 0)) (lanesApart tops (blockAt size i codes) lanes) past
+slotApart codes alive size tops lanes i = cond (liveAt alive i) (lanesApart tops (blockAt size i codes) lanes) past

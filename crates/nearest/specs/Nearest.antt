@@ -2,23 +2,20 @@
 use mathlib.Core.Bool.{Bool, _&&_, _||_}
 use mathlib.Core.List.{List}
 use Prim.Native.Nat.{ℕ}
-use lib.ListN.{getD}
 use lib.Dec.{leb, ltb, eqb}
 use Rattle.lists.specs.Lists.{tab, below}
 use Rattle.lists.specs.Keep.{bit, keep, count}
+use Rattle.marks.specs.Live.{liveAt}
 use Rattle.unit.specs.Calls.{rotatable}
 
 module _ (distance : ℕ → ℕ) (alive : List ℕ) (n : ℕ) where
-  abbrev pub liveSlot : ℕ → Bool
-  liveSlot i = ltb 0 (getD alive i 0)
-
   -- slot i stands before slot j: nearer, or as near with the lower number
   abbrev pub before : ℕ → ℕ → Bool
   before i j = ltb (distance i) (distance j) || (eqb (distance i) (distance j) && ltb i j)
 
   -- a live slot with fewer than r live ones before it
   unfoldable pub isNear : (r : ℕ) → ℕ → Bool
-  isNear r j = liveSlot j && ltb (count (λ i. before i j) (keep liveSlot (below n))) r
+  isNear r j = liveAt alive j && ltb (count (λ i. before i j) (keep (liveAt alive) (below n))) r
 
   -- the marks of the first n slots: 1 for a candidate, 0 for any other
   unfoldable pub nearMarks : (r : ℕ) → List ℕ

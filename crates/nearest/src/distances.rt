@@ -141,7 +141,7 @@ fn slot_distance(
     requires { ⌜ (lanes ≤ 4096) × (lanes ≤ length (now tops)) × (Split (now tops) (now even) (now odd) (lanes / 2)) ⌝ }
     ensures { λ r. ⌜ r ≡ slotApart (now (codes .entry)) (now (alive .entry)) size (now (tops .entry)) lanes slot ⌝ }
 {
-    if 0 < marks::live_mark(alive, slot) {
+    if marks::is_live(alive, slot) {
         let block = codes::slot_codes(codes, slot, size);
         return lanes_apart(tops, even, odd, block, lanes);
     }

@@ -1,2 +1,3 @@
--- Laws that the proofs of several functions cite.
+-- Laws that the proofs of several functions cite, and those of the crates above.
+pub mod Numeral
 mod Runs

@@ -1,15 +1,22 @@
--- How numbers are printed into a lent buffer, and runs of them.
+-- How numbers are printed, and runs of them.
 use mathlib.Core.Path.{_≡_, refl}
+use mathlib.Core.Bool.{cond, _&&_}
 use mathlib.Core.List.{List, [], _∷_, _++_}
-use Prim.Native.Nat.{ℕ}
-use Rattle.io.specs.Digits.{digits, Fewest}
-use Rattle.print.specs.Printed.{Prints}
+use Prim.Native.Nat.{ℕ, zero, suc, _-_, _/_, _%_}
+use lib.Dec.{ltb}
+use Rattle.io.specs.Digits.{glyph, digits}
 
--- a number in base b, printed in the fewest digits that hold it and are no fewer than `least`
-pub record PutNumber (b least n : ℕ) (d : List ℕ) (at : ℕ) (after : List ℕ) (next : ℕ) : Type 0 where
-  pub count : ℕ
-  pub fewest : Fewest b least n count
-  pub put : Prints d at (digits b count n) after next
+-- The numeral of n in base b: that of the quotient, then the last digit. It has `least` digits at least, zeros in front, and the last `most` at most.
+unfoldable pub numeral : (b least most n : ℕ) → List ℕ
+numeral b least zero n = []
+numeral b least (suc m) n = cond (ltb least 2 && ltb n b) (glyph n ∷ []) (numeral b (least - 1) m (n / b) ++ (glyph (n % b) ∷ []))
+
+-- of a number of 64 bits
+abbrev pub decimal : ℕ → List ℕ
+decimal n = numeral 10 1 20 n
+
+abbrev pub hexadecimal : (least n : ℕ) → List ℕ
+hexadecimal least n = numeral 16 least 16 n
 
 -- w hexadecimal digits for each element, run together; `number` is the number that an element is printed as
 abbrev pub digitsOfEach : {A : Type 0} → ℕ → (A → ℕ) → List A → List ℕ
@@ -21,6 +28,18 @@ abbrev pub runText : {A : Type 0} → ℕ → (A → ℕ) → List A → List �
 runText w number [] = 45 ∷ []
 runText w number (x ∷ xs) = digitsOfEach w number (x ∷ xs)
 
--- worked by hand: the bytes 10 and 255 are `0aff`
+-- worked by hand: 0 is `0`, 107 is `107`, 27 in four digits is `001b`; the bytes 10 and 255 are `0aff`
+none : decimal 0 ≡ 48 ∷ []
+unfolding numeral
+none = refl
+
+within : decimal 107 ≡ 49 ∷ 48 ∷ 55 ∷ []
+unfolding numeral
+within = refl
+
+in-four : hexadecimal 4 27 ≡ 48 ∷ 48 ∷ 49 ∷ 98 ∷ []
+unfolding numeral
+in-four = refl
+
 worked : runText 2 (λ (b : ℕ). b) (10 ∷ 255 ∷ []) ≡ 48 ∷ 97 ∷ 102 ∷ 102 ∷ []
 worked = refl

@@ -1,3 +1,7 @@
--- Laws of one slot written.
+-- Laws of one slot written, and that the adding calls write it.
 mod Codes
-pub mod Calls
+mod Calls
+mod Blocks
+mod Append
+mod Overwrite
+mod Keyed

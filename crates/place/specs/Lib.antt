@@ -1,2 +1,3 @@
--- What writing one slot does.
+-- What writing one slot does, and which slot is written.
 pub mod Place
+pub mod Adding

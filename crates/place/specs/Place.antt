@@ -1,9 +1,8 @@
--- One slot written over the lent arrays: what an append and an overwrite do, with their refusals.
--- That the adding calls do just this is shown in the crate `add`.
+-- One slot written over the lent arrays, and the refusals.
 use mathlib.Core.Path.{_≡_}
 use mathlib.Core.Bool.{Bool, true, false, cond}
 use mathlib.Core.List.{List, [], _∷_}
-use Prim.Native.Nat.{ℕ, zero, suc, _*_, _≤_, _<_}
+use Prim.Native.Nat.{ℕ, suc, _*_, _≤_, _<_}
 use lib.ListN.{length}
 use lib.Dec.{leb}
 use denote.Ref.{RefT, now}
@@ -12,13 +11,11 @@ use Rattle.encode.specs.Header.{blockSize}
 use Rattle.encode.specs.Coded.{Code, fault, noSpare, spareOf}
 use Rattle.index.specs.declared.Index.{Index}
 use Rattle.index.specs.Arrays.{Arrays}
-use Rattle.index.specs.State.{Slot, headerOf, withCounts, capacity, markOf, slotAt, putSlot, newSlot, withCode}
+use Rattle.index.specs.State.{headerOf, withCounts, capacity, slotAt, putSlot, withCode}
 use Rattle.index.specs.Fit.{misfit}
 use Rattle.index.specs.Sound.{Ranged}
 use Rattle.index.specs.Codec.{encoded}
-use Rattle.index.specs.Step.{Item, firstOf, when, refused, slot}
-use Rattle.index.specs.Call.{Result}
-use Rattle.index.specs.Answers.{result}
+use Rattle.index.specs.Step.{Item, firstOf, when}
 
 -- ---- the code
 
@@ -58,29 +55,13 @@ pub record Codable (h : Header) (a : Arrays) (i : ℕ) (v : Item) : Type 0 where
   pub codes2 : h .residual ≡ true → suc i * blockSize h ≤ length (a .codes2)
   pub scales2 : h .residual ≡ true → i < length (a .scales2)
 
--- ---- append and overwrite
+-- ---- the record, and the refusals
 
--- the record after an accepted add: 01, "Every accepted add, overwrites too, ends it" (the cascade)
-unfoldable pub afterAdd : Index → (n live : ℕ) → Index
-afterAdd x n live = withCounts x n live false
+-- the record after an accepted add, of a slot behind those in use or of one among them: 01, "Every accepted add, overwrites too, ends it" (the cascade)
+unfoldable pub afterAdd : Index → (fresh : Bool) → Index
+afterAdd x true = withCounts x (suc (x .n)) (suc (x .live)) false
+afterAdd x false = withCounts x (x .n) (x .live) false
 
--- 13; "Add: 1, 2, 3", and the number `full` where the slot is not below `room`
-unfoldable pub refusal : Index → Arrays → (slot room full : ℕ) → Item → ℕ
-refusal x a i room full v = firstOf (when (misfit x a) 13 ∷ fault (headerOf x) (v .vector) ∷ when (leb room i) full ∷ [])
-
--- a refusal leaves record and arrays as they were
-abbrev pub unlessRefused : Index → Arrays → (refusal : ℕ) → Result → Result
-unlessRefused x a zero r = r
-unlessRefused x a (suc n) r = result x a (refused (suc n))
-
--- A live slot behind those in use, with or without a key. 8: "slots in use equal to capacity".
-unfoldable pub appending : Index → Arrays → (key : ℕ) → (keyed : Bool) → (position : ℕ) → Item → Result
-appending x a k on p v =
-    let h = headerOf x in
-    let s : Slot = newSlot (markOf 1 on k p) (encoded h noSpare v) in
-    unlessRefused x a (refusal x a (x .n) (capacity h a) 8 v) (result (afterAdd x (suc (x .n)) (suc (x .live))) (putSlot h a (x .n) s) (slot (x .n)))
-
--- The code of slot i anew; its mark stays. A slot past those in use is refused by 9.
-unfoldable pub overwriting : Index → Arrays → (i : ℕ) → Item → Result
-overwriting x a i v =
-    unlessRefused x a (refusal x a i (x .n) 9 v) (result (afterAdd x (x .n) (x .live)) (putCode (headerOf x) a false i v) (slot i))
+-- 13; "Add: 1, 2, 3, 8". 8 does not come for a slot in use: arrays that hold too few slots are 13.
+unfoldable pub refusal : Index → Arrays → (slot : ℕ) → Item → ℕ
+refusal x a i v = firstOf (when (misfit x a) 13 ∷ fault (headerOf x) (v .vector) ∷ when (leb (capacity (headerOf x) a) i) 8 ∷ [])

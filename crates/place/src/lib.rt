@@ -1,7 +1,6 @@
-// One slot written: the append and the overwrite that the adding calls are made of.
+// One slot written: what the three adding calls have in common.
 ghost use mathlib.Core.Path.{_≡_};
-ghost use mathlib.Core.Bool.{cond};
-ghost use Prim.Native.Nat.{_<_};
+ghost use Prim.Native.Nat.{_≤_, _<_};
 ghost use lib.ListN.{length, set};
 ghost use Rattle.lloyd.specs.Tables.{levelsOf};
 ghost use Rattle.encode.specs.Calls.{stages, encodedInto};
@@ -9,12 +8,63 @@ ghost use Rattle.index.specs.Arrays.{lent};
 ghost use Rattle.index.specs.State.{headerOf};
 ghost use Rattle.index.specs.Codec.{tableOf};
 ghost use Rattle.index.specs.Step.{itemOf};
+ghost use Rattle.index.specs.Call.{call};
 ghost use Rattle.index.specs.Answers.{added};
-ghost use Rattle.place.specs.Place.{dataOf, Codable, putCode, afterAdd, refusal, appending, overwriting};
+ghost use Rattle.place.specs.Place.{dataOf, Codable, putCode, afterAdd, refusal};
+ghost use Rattle.place.specs.Adding.{opOf, spotOf};
 use encode::Header;
 use encode::Scales;
 use index::Added;
 use index::Index;
+
+// ---- which slot
+
+// How a vector is added: as a slot without a key; over the first held slot of a key, or as its first one; as one more slot of a key.
+pub enum Adding {
+    Unkeyed,
+    Keyed(u64),
+    Multi(u64),
+}
+
+// A slot to be written, with what its mark will say: the word of its key, whether it has one, and its position in held order.
+struct Spot {
+    slot: usize,
+    key: u64,
+    has_key: bool,
+    position: usize,
+}
+
+// The slot to be written, n being the one behind those in use.
+fn spot_of(adding: Adding, keys: &[u64], keyed: &[bool], held: &[u32], n: usize) -> Spot
+    ensures { λ r. ⌜ r ≡ spotOf adding (now (keys .entry)) (now (keyed .entry)) (now (held .entry)) n ⌝ }
+{
+    match adding {
+        Adding::Unkeyed => {
+            return Spot {
+                slot: n,
+                key: 0,
+                has_key: false,
+                position: 0,
+            };
+        }
+        Adding::Keyed(key) => {
+            return Spot {
+                slot: held::held_slot(keys, keyed, held, n, key, 0),
+                key: key,
+                has_key: true,
+                position: 0,
+            };
+        }
+        Adding::Multi(key) => {
+            return Spot {
+                slot: n,
+                key: key,
+                has_key: true,
+                position: held::held_count(keys, keyed, n, key),
+            };
+        }
+    }
+}
 
 // ---- one slot's places
 
@@ -93,53 +143,39 @@ fn put_code(
     scales[slot] = s.scale;
 }
 
-// A slot without a key holds position 0.
-fn held_if_keyed(has_key: bool, position: u32) -> u32
-    ensures { λ r. ⌜ r ≡ cond «has_key» position 0 ⌝ }
+// The mark of a live slot into its places. A slot that is overwritten has it already.
+fn put_mark(spot: Spot, keys: &mut [u64], keyed: &mut [bool], held: &mut [u32], alive: &mut [u8])
+    requires { ⌜ (spot .slot < length (now keys)) × (spot .slot < length (now keyed)) × (spot .slot < length (now held)) × (spot .position ≤ 65536) ⌝ }
+    ensures keys { λ _. ⌜ now (keys .exit) ≡ set (now (keys .entry)) (spot .slot) (spot .key) ⌝ }
+    ensures keyed { λ _. ⌜ now (keyed .exit) ≡ set (now (keyed .entry)) (spot .slot) (spot .«has_key») ⌝ }
+    ensures held { λ _. ⌜ now (held .exit) ≡ set (now (held .entry)) (spot .slot) (spot .position) ⌝ }
+    ensures alive { λ _. ⌜ now (alive .exit) ≡ set (now (alive .entry)) (spot .slot) 1 ⌝ }
 {
-    if has_key {
-        return position;
-    }
-    0
-}
-
-// A live slot's mark into its places: with a key and its position in held order, or without a key.
-fn put_mark(
-    slot: usize,
-    key: u64,
-    has_key: bool,
-    position: u32,
-    keys: &mut [u64],
-    keyed: &mut [bool],
-    held: &mut [u32],
-    alive: &mut [u8],
-)
-    requires { ⌜ (slot < length (now keys)) × (slot < length (now keyed)) × (slot < length (now held)) ⌝ }
-    ensures keys { λ _. ⌜ now (keys .exit) ≡ set (now (keys .entry)) slot key ⌝ }
-    ensures keyed { λ _. ⌜ now (keyed .exit) ≡ set (now (keyed .entry)) slot «has_key» ⌝ }
-    ensures held { λ _. ⌜ now (held .exit) ≡ set (now (held .entry)) slot (cond «has_key» position 0) ⌝ }
-    ensures alive { λ _. ⌜ now (alive .exit) ≡ set (now (alive .entry)) slot 1 ⌝ }
-{
-    keys[slot] = key;
-    keyed[slot] = has_key;
-    held[slot] = held_if_keyed(has_key, position);
+    let slot = spot.slot;
+    keys[slot] = spot.key;
+    keyed[slot] = spot.has_key;
+    held[slot] = spot.position as u32;
     marks::set_live_mark(alive, slot, true);
 }
 
-// ---- append and overwrite
+// ---- the call
 
 // The record after an accepted add.
-fn after_add(index: Index, n: usize, live: usize) -> Index
-    ensures { λ r. ⌜ r ≡ afterAdd index n live ⌝ }
+fn after_add(index: Index, fresh: bool) -> Index
+    requires { ⌜ (index .n ≤ 65536) × (index .live ≤ 65536) ⌝ }
+    ensures { λ r. ⌜ r ≡ afterAdd index fresh ⌝ }
 {
     let mut next = index;
-    next.n = n;
-    next.live = live;
     next.cascade = false;
+    if fresh {
+        next.n = index.n + 1;
+        next.live = index.live + 1;
+        return next;
+    }
     next
 }
 
-// The refusal of an add into a slot that must be below `room`, else `full`; 0 for none.
+// The refusal of an add into a slot; 0 for none.
 fn refusal(
     index: Index,
     codes: &[u8],
@@ -151,13 +187,11 @@ fn refusal(
     codes2: &[u8],
     scales2: &[u32],
     slot: usize,
-    room: usize,
-    full: u8,
     v: &[f32],
 ) -> u8
     ensures { λ r. ⌜
         r ≡ refusal index (lent (codes .entry) (scales .entry) (keys .entry) (keyed .entry) (held .entry) (alive .entry) (codes2 .entry) (scales2 .entry))
-        slot room full (itemOf (now (v .entry))) ⌝ }
+        slot (itemOf (now (v .entry))) ⌝ }
 {
     if fit::fits(
         index,
@@ -174,16 +208,27 @@ fn refusal(
         if fault != 0 {
             return fault;
         }
+        let room = fit::capacity(
+            index,
+            codes,
+            scales,
+            keys,
+            keyed,
+            held,
+            alive,
+            codes2,
+            scales2,
+        );
         if room <= slot {
-            return full;
+            return 8;
         }
         return 0;
     }
     13
 }
 
-// A live slot behind those in use, with a key at a position in held order, or without a key.
-pub fn append(
+// Adds a vector: the part that the three adding calls share. The scan for the key comes before the test of the arrays, and ends with them.
+pub fn put(
     index: Index,
     codes: &mut [u8],
     scales: &mut [u32],
@@ -193,70 +238,17 @@ pub fn append(
     alive: &mut [u8],
     codes2: &mut [u8],
     scales2: &mut [u32],
-    key: u64,
-    has_key: bool,
-    position: u32,
+    adding: Adding,
     v: &[f32],
 ) -> Added
     ensures { λ r. ⌜
         added index r (lent (codes .exit) (scales .exit) (keys .exit) (keyed .exit) (held .exit) (alive .exit) (codes2 .exit) (scales2 .exit))
-        ≡ appending index (lent (codes .entry) (scales .entry) (keys .entry) (keyed .entry) (held .entry) (alive .entry) (codes2 .entry) (scales2 .entry))
-        key «has_key» position (itemOf (now (v .entry))) ⌝ }
+        ≡ call index (lent (codes .entry) (scales .entry) (keys .entry) (keyed .entry) (held .entry) (alive .entry) (codes2 .entry) (scales2 .entry))
+        (opOf adding (itemOf (now (v .entry)))) ⌝ }
 {
     let n = index.n;
-    let room = fit::capacity(
-        index,
-        codes,
-        scales,
-        keys,
-        keyed,
-        held,
-        alive,
-        codes2,
-        scales2,
-    );
-    let number = refusal(
-        index,
-        codes,
-        scales,
-        keys,
-        keyed,
-        held,
-        alive,
-        codes2,
-        scales2,
-        n,
-        room,
-        8,
-        v,
-    );
-    if number != 0 {
-        return Added::Refused(number);
-    }
-    put_code(header_of(index), true, n, v, codes, scales, codes2, scales2);
-    put_mark(n, key, has_key, position, keys, keyed, held, alive);
-    Added::Slot(n, after_add(index, n + 1, index.live + 1))
-}
-
-// The code of a slot anew.
-pub fn overwrite(
-    index: Index,
-    codes: &mut [u8],
-    scales: &mut [u32],
-    keys: &[u64],
-    keyed: &[bool],
-    held: &[u32],
-    alive: &[u8],
-    codes2: &mut [u8],
-    scales2: &mut [u32],
-    slot: usize,
-    v: &[f32],
-) -> Added
-    ensures { λ r. ⌜
-        added index r (lent (codes .exit) (scales .exit) (keys .entry) (keyed .entry) (held .entry) (alive .entry) (codes2 .exit) (scales2 .exit))
-        ≡ overwriting index (lent (codes .entry) (scales .entry) (keys .entry) (keyed .entry) (held .entry) (alive .entry) (codes2 .entry) (scales2 .entry))
-        slot (itemOf (now (v .entry))) ⌝ }
-{
+    let spot = spot_of(adding, keys, keyed, held, n);
+    let slot = spot.slot;
     let number = refusal(
         index,
         codes,
@@ -268,22 +260,14 @@ pub fn overwrite(
         codes2,
         scales2,
         slot,
-        index.n,
-        9,
         v,
     );
     if number != 0 {
         return Added::Refused(number);
     }
-    put_code(
-        header_of(index),
-        false,
-        slot,
-        v,
-        codes,
-        scales,
-        codes2,
-        scales2,
-    );
-    Added::Slot(slot, after_add(index, index.n, index.live))
+    let header = header_of(index);
+    let fresh = slot == n;
+    put_code(header, fresh, slot, v, codes, scales, codes2, scales2);
+    put_mark(spot, keys, keyed, held, alive);
+    Added::Slot(slot, after_add(index, fresh))
 }

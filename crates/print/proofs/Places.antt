@@ -3,18 +3,16 @@ use mathlib.Core.Path.{_≡_, refl, sym, ap, ap₂, _∙_}
 use mathlib.Core.Bool.{Bool, true, false}
 use mathlib.Core.List.{List, [], _∷_, _++_}
 use Prim.Native.Nat.{ℕ, suc, _+_, _≤_, _<_, min}
-use native.Mathlib.Nat.{add-zero, min-eq-left, min-eq-right, le-of-lt}
+use native.Mathlib.Nat.{min-eq-left, min-eq-right, le-of-lt}
 use native.Mathlib.Numerals.{add-one}
 use native.Mathlib.Omega.{arith}
 use borrow.Author.Tests.{ltb-true, ltb-false}
 use lib.Dec.{ltb}
-use lib.ListN.{length, take, getD, set, length-append}
-use lib.Seq.{sets, set-out, take-suc, length-sets}
+use lib.ListN.{length, take, drop, getD, length-append}
+use lib.Seq.{sets, sets-eq, set-out, take-suc, take-at, length-sets}
+use Rattle.lists.proofs.Keep.{sets-append}
+use Rattle.io.specs.Counts.{Counts}
 use Rattle.print.specs.Printed.{Prints}
-
-sets-append : (d : List ℕ) (at : ℕ) (s t : List ℕ) → sets d at (s ++ t) ≡ sets (sets d at s) (at + length s) t
-sets-append d at [] t = rw add-zero
-sets-append d at (x ∷ s) t = sets-append (set d at x) (suc at) s t ∙ ap (λ (k : ℕ). sets (sets (set d at x) (suc at) s) k t) (omega arith)
 
 -- bytes that are stored at the end of the list, or past it, are lost
 sets-out : (l : List ℕ) (k : ℕ) (t : List ℕ) → length l ≤ k → sets l k t ≡ l
@@ -45,3 +43,11 @@ put-then d at s t d′ next d″ after p q =
 pub put-more : (d : List ℕ) (at : ℕ) (s : List ℕ) (i : ℕ) (d′ : List ℕ) (next : ℕ) (d″ : List ℕ) (after : ℕ) → i < length s
     → Prints d at (take i s) d′ next → Prints d′ next (getD s i 0 ∷ []) d″ after → Prints d at (take (i + 1) s) d″ after
 put-more d at s i d′ next d″ after h p q = rw (add-one, take-suc s i 0) (put-then d at (take i s) (getD s i 0 ∷ []) d′ next d″ after p q)
+
+-- what has room at the front stands there whole
+pub whole : (d t d′ : List ℕ) (next : ℕ) → length t ≤ length d → Prints d 0 t d′ next → Counts next d′ × (take next d′ ≡ t)
+whole d t d′ next room p =
+    let size : length d′ ≡ length d = ap length (p .text) ∙ length-sets d 0 t in
+    let end : next ≡ length t = omega (arith, p .place) in
+    let text : take next d′ ≡ t = ap (take next) (p .text ∙ sets-eq t d 0 (omega arith)) ∙ take-at t (drop (0 + length t) d) next (sym end) in
+    ((omega arith, end ∙ ap length (sym text)), text)

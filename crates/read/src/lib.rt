@@ -208,8 +208,8 @@ fn index_in(file: &[u8]) -> Index
     }
 }
 
-// The refusal of the file into these arrays; 0 for none.
-fn read_fault(
+// The refusal of the file into these arrays, before anything is written: 14 to 20, in 01's order; 0 for none.
+pub fn read_fault(
     codes: &[u8],
     scales: &[u32],
     keys: &[u64],

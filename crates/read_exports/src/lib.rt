@@ -1,8 +1,43 @@
 // Reading, for C and Rust. The words of the record (crate words) go to the first places of `fields`.
 ghost use mathlib.Core.Path.{_≡_};
-ghost use mathlib.Core.List.{[]};
+ghost use mathlib.Core.List.{[], _∷_};
 ghost use Rattle.index.specs.Arrays.{lent};
+ghost use Rattle.index.specs.Step.{firstOf};
+ghost use Rattle.index.specs.Read.{readRefusal};
 ghost use Rattle.words.specs.Exports.{left, reads};
+
+// The refusal where the record has no place: 01 asks for what the file says first.
+fn without_place(
+    codes: &[u8],
+    scales: &[u32],
+    keys: &[u64],
+    keyed: &[bool],
+    held: &[u32],
+    alive: &[u8],
+    codes2: &[u8],
+    scales2: &[u32],
+    file: &[u8],
+) -> u8
+    ensures { λ r. ⌜
+        r ≡ firstOf (readRefusal (now (file .entry))
+        (lent (codes .entry) (scales .entry) (keys .entry) (keyed .entry) (held .entry) (alive .entry) (codes2 .entry) (scales2 .entry)) ∷ 13 ∷ []) ⌝ }
+{
+    let fault = read::read_fault(
+        codes,
+        scales,
+        keys,
+        keyed,
+        held,
+        alive,
+        codes2,
+        scales2,
+        file,
+    );
+    if fault == 0 {
+        return 13;
+    }
+    fault
+}
 
 #[no_mangle]
 pub extern "C" fn vecq_from_bytes(
@@ -25,7 +60,17 @@ pub extern "C" fn vecq_from_bytes(
 {
     // nothing may have been written once the record turns out to have no place
     if fields.len() < words::RECORD_WORDS {
-        return 13;
+        return without_place(
+            codes,
+            scales,
+            keys,
+            keyed,
+            held,
+            alive,
+            codes2,
+            scales2,
+            file,
+        );
     }
     let read = read::from_bytes(
         codes,

@@ -13,8 +13,8 @@ use Rattle.index.specs.State.{Slot, State, live}
 use Rattle.lists.specs.Lists.{joined}
 use Rattle.index.specs.File.{Entry, leBytes, versionOf, widthByte, headBytes, stageBytes, secondStages, keyEntries, fileOf}
 use Rattle.index.specs.Step.{liveFrom, keyOfMark, entryOf, fileBytes}
-use Rattle.index.specs.Read.{markFrom, slotsIn, stateIn}
-use Rattle.index.proofs.Read.{read-live}
+use Rattle.index.specs.Read.{slotsIn, stateIn}
+use Rattle.index.proofs.Read.{mark-key, read-live}
 use Rattle.compact.proofs.Rising.{rising-map}
 use Rattle.round_trip.specs.Back.{halved, halvedIf, halvedCode, readBack, Writable}
 use Rattle.round_trip.proofs.Halves.{narrow-again}
@@ -76,10 +76,6 @@ unfolding liveFrom
 all-live i [] h = refl
 all-live i (s ∷ ss) h = rw (h .0) (ap (λ (es : List Entry). entryIn s ∷ es) (all-live (suc i) ss (h .1)))
 
-key-kept : (o : Option ℕ) → keyOfMark (markFrom o) ≡ o
-key-kept none = refl
-key-kept (some k) = refl
-
 module _ (h : Header) (es : List Entry) (t : Writable h es) where
   abbrev file : List ℕ
   file = fileOf h es
@@ -87,7 +83,7 @@ module _ (h : Header) (es : List Entry) (t : Writable h es) where
   entries-again : map entryOf (liveFrom 0 (slotsIn file)) ≡ map halvedEntry es
   entries-again =
       all-live 0 (slotsIn file) (read-live file) ∙ ap (map entryIn) (slots-back h es t) ∙ rising-map entryIn (λ k p q c. refl) (λ k. 0) (map readBack es)
-      ∙ map-map entryIn readBack es ∙ (λ i. map (λ (e : Entry). record { code = halvedCode (e .code); key = key-kept (e .key) i }) es)
+      ∙ map-map entryIn readBack es ∙ (λ i. map (λ (e : Entry). record { code = halvedCode (e .code); key = mark-key (e .key) i }) es)
 
   -- what was read is written as the same bytes
   pub written-again : fileBytes (stateIn file .header) (liveFrom 0 (stateIn file .slots)) ≡ file

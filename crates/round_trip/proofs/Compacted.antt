@@ -5,9 +5,9 @@ use mathlib.Core.List.{List, [], _∷_, map}
 use Prim.Native.Nat.{ℕ, suc}
 use Rattle.lists.specs.Keep.{keep}
 use Rattle.index.specs.State.{Mark, dead, unkeyed, keyed, Slot, State, live, withMark}
-use Rattle.index.specs.Step.{liveFrom, entryOf, fileBytes, oneMore, rising, compacted}
+use Rattle.index.specs.Step.{liveFrom, entryOf, fileBytes, oneMore, rising, compacted, withSlots}
 use Rattle.index.specs.Read.{stateIn}
-use Rattle.round_trip.specs.Back.{readBack, tidied, Writable}
+use Rattle.round_trip.specs.Back.{readBack, tidied, saved, Writable}
 use Rattle.round_trip.proofs.Back.{value-back}
 
 tidied-rising : (seen : ℕ → ℕ) (i : ℕ) (ss : List Slot) → rising seen (map readBack (map entryOf (liveFrom i ss))) ≡ map tidied (rising seen (keep live ss))
@@ -22,8 +22,6 @@ tidied-rising seen i (s ∷ ss) = go (s .mark) (λ next. tidied-rising next (suc
     go (keyed k p) ih = rw (ih (oneMore k seen))
 
 module _ (s : State) (t : Writable (s .header) (map entryOf (liveFrom 0 (s .slots)))) where
-  pub read-written : stateIn (fileBytes (s .header) (liveFrom 0 (s .slots))) ≡ record { header = s .header; cascade = false; slots = map tidied (compacted (s .slots)) }
-  unfolding compacted
-  read-written =
-      value-back (s .header) (map entryOf (liveFrom 0 (s .slots))) t
-      ∙ (λ i. record { header = s .header; cascade = false; slots = tidied-rising (λ k. 0) 0 (s .slots) i })
+  pub read-written : stateIn (fileBytes (s .header) (liveFrom 0 (s .slots))) ≡ saved s
+  unfolding saved compacted
+  read-written = value-back (s .header) (map entryOf (liveFrom 0 (s .slots))) t ∙ (λ i. withSlots s false (tidied-rising (λ k. 0) 0 (s .slots) i))

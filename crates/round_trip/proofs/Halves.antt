@@ -2,7 +2,7 @@
 use mathlib.Core.Path.{_≡_, refl, sym, _∙_, subst}
 use mathlib.Core.Logic.{inl}
 use Prim.Native.Nat.{ℕ, _*_, _/_, _^_, _≤_, _<_}
-use native.Mathlib.Nat.{mul-lt-mul-of-pos-right, lt-of-not-le}
+use native.Mathlib.Nat.{mul-lt-mul-of-pos-right, lt-of-not-le, le-of-lt, le-of-eq}
 use native.Mathlib.Decide.{decLe}
 use native.Mathlib.Omega.{arith}
 use lib.Pow.{pow-pos}
@@ -42,9 +42,35 @@ own-rounded c d p l = record { over = λ h. absurd (far h); below = λ h. record
 parts-same : (q r : ℕ) → signOf 10 5 q ≡ signOf 10 5 r → unsigned 10 5 q ≡ unsigned 10 5 r → q ≡ r
 parts-same q r s u = omega (arith, s, u)
 
+-- a half that is no NaN is read, and rounded to itself
+pub back-to-itself : (r : ℕ) → unsigned 10 5 r ≤ infinity 10 5 → narrowed (widened r) ≡ r
+back-to-itself r l = parts-same q r (mq .sign ∙ mw .sign) (kind (decLe (infinity 10 5) (unsigned 10 5 r)))
+  where
+    q : ℕ
+    q = narrowed (widened r)
+
+    mw : Widened r (widened r)
+    mw = Widen.meets r (widened r) refl
+
+    mq : Narrowed (widened r) q
+    mq = Narrow.meets (widened r) q refl
+
+    finite : Finite 10 5 r → unsigned 10 5 q ≡ unsigned 10 5 r
+    finite k =
+        rounded-unique 10 5 (value 10 (unsigned 10 5 r) * 2 ^ 125) (2 ^ 125) (unsigned 10 5 q) (unsigned 10 5 r) (pow-pos 125)
+        (subst (λ (n : ℕ). Rounded 10 5 n (2 ^ 125) (unsigned 10 5 q)) (mw .exact k) (mq .rounded (mw .finite k)))
+        (own-rounded (unsigned 10 5 r) (2 ^ 125) (pow-pos 125) k)
+
+    infinite : Infinite 10 5 r → unsigned 10 5 q ≡ unsigned 10 5 r
+    infinite e = mq .infinite (mw .infinite e) ∙ sym e
+
+    kind : Dec (infinity 10 5 ≤ unsigned 10 5 r) → unsigned 10 5 q ≡ unsigned 10 5 r
+    kind (no a) = finite (lt-of-not-le a)
+    kind (yes a) = infinite (omega (arith, a, l))
+
 -- rounded, read and rounded again
 pub narrow-again : (x : ℕ) → narrowed (widened (narrowed x)) ≡ narrowed x
-narrow-again x = parts-same q r (mq .sign ∙ mw .sign) (kind (decLe (infinity 23 8) (unsigned 23 8 x)) (decLe (unsigned 23 8 x) (infinity 23 8)))
+narrow-again x = kind (decLe (infinity 23 8) (unsigned 23 8 x)) (decLe (unsigned 23 8 x) (infinity 23 8))
   where
     r : ℕ
     r = narrowed x
@@ -61,26 +87,17 @@ narrow-again x = parts-same q r (mq .sign ∙ mw .sign) (kind (decLe (infinity 2
     mq : Narrowed (widened r) q
     mq = Narrow.meets (widened r) q refl
 
-    finite : Finite 10 5 r → unsigned 10 5 q ≡ unsigned 10 5 r
-    finite l =
-        rounded-unique 10 5 (value 10 (unsigned 10 5 r) * 2 ^ 125) (2 ^ 125) (unsigned 10 5 q) (unsigned 10 5 r) (pow-pos 125)
-        (subst (λ (n : ℕ). Rounded 10 5 n (2 ^ 125) (unsigned 10 5 q)) (mw .exact l) (mq .rounded (mw .finite l)))
-        (own-rounded (unsigned 10 5 r) (2 ^ 125) (pow-pos 125) l)
+    no-number : unsigned 10 5 r ≡ 0x7E00 → q ≡ r
+    no-number e = parts-same q r (mq .sign ∙ mw .sign) (mq .nan (mw .nan (omega (arith, e))) ∙ sym e)
 
-    infinite : Infinite 10 5 r → unsigned 10 5 q ≡ unsigned 10 5 r
-    infinite e = mq .infinite (mw .infinite e) ∙ sym e
-
-    no-number : unsigned 10 5 r ≡ 0x7E00 → unsigned 10 5 q ≡ unsigned 10 5 r
-    no-number e = mq .nan (mw .nan (omega (arith, e))) ∙ sym e
-
-    rounds : Rounded 10 5 (value 23 (unsigned 23 8 x)) (2 ^ 125) (unsigned 10 5 r) → unsigned 10 5 q ≡ unsigned 10 5 r
+    rounds : Rounded 10 5 (value 23 (unsigned 23 8 x)) (2 ^ 125) (unsigned 10 5 r) → q ≡ r
     rounds m = far (decLe (twiceThreshold 10 5 * 2 ^ 125) (2 * value 23 (unsigned 23 8 x)))
       where
-        far : Dec (twiceThreshold 10 5 * 2 ^ 125 ≤ 2 * value 23 (unsigned 23 8 x)) → unsigned 10 5 q ≡ unsigned 10 5 r
-        far (yes h) = infinite (m .over h)
-        far (no h) = finite (m .below (lt-of-not-le h) .finite)
+        far : Dec (twiceThreshold 10 5 * 2 ^ 125 ≤ 2 * value 23 (unsigned 23 8 x)) → q ≡ r
+        far (yes h) = back-to-itself r (le-of-eq (m .over h))
+        far (no h) = back-to-itself r (le-of-lt (m .below (lt-of-not-le h) .finite))
 
-    kind : Dec (infinity 23 8 ≤ unsigned 23 8 x) → Dec (unsigned 23 8 x ≤ infinity 23 8) → unsigned 10 5 q ≡ unsigned 10 5 r
+    kind : Dec (infinity 23 8 ≤ unsigned 23 8 x) → Dec (unsigned 23 8 x ≤ infinity 23 8) → q ≡ r
     kind (no a) b = rounds (mx .rounded (lt-of-not-le a))
-    kind (yes a) (yes b) = infinite (mx .infinite (omega (arith, a, b)))
+    kind (yes a) (yes b) = back-to-itself r (le-of-eq (mx .infinite (omega (arith, a, b))))
     kind (yes a) (no b) = no-number (mx .nan (lt-of-not-le b))

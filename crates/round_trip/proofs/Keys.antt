@@ -11,7 +11,7 @@ use lib.Dec.{ltb, eqb}
 use borrow.Author.Tests.{lt-ltb, eq-eqb, eqb-true, ne-eqb}
 use Rattle.lists.specs.Lists.{tab, joined}
 use Rattle.lists.specs.Keep.{bit, count, Each}
-use Rattle.lists.proofs.Keep.{each-weaken, each-mem}
+use Rattle.lists.proofs.Keep.{each-weaken, each-mem, each-both}
 use Rattle.lists.proofs.Front.{tab-is, each-map, each-at}
 use Rattle.digits.specs.Digits.{number}
 use Rattle.index.specs.File.{Entry, leBytes, keyEntries}
@@ -105,14 +105,10 @@ well-back es =
     each-all (λ s. ltb s (length es) && eqb (count (eqb s) ss) 1) ss
     (each-weaken (λ t. (t < length es) × (0 < count (eqb t) ss)) (λ t. (ltb t (length es) && eqb (count (eqb t) ss) 1) ≡ true) ss
     (λ t h. rw (lt-ltb t (length es) (h .0)) (eq-eqb (count (eqb t) ss) 1 (omega (arith, h .1, once t 0 es))))
-    (both (λ t. t < length es) (λ t. 0 < count (eqb t) ss) ss
+    (each-both (λ t. t < length es) (λ t. 0 < count (eqb t) ss) ss
     (each-map (λ t. t < length es) (λ p. p .slot) (pairs 0 es)
     (each-weaken (λ p. (0 ≤ p .slot) × (p .slot < 0 + length es)) (λ p. p .slot < length es) (pairs 0 es) (λ p h. omega (arith, h .1)) (within 0 es)))
     (own-counted ss)))
-  where
-    both : (P Q : ℕ → Type 0) (xs : List ℕ) → Each P xs → Each Q xs → Each (λ x. P x × Q x) xs
-    both P Q [] p q = tt
-    both P Q (x ∷ xs) p q = ((p .0, q .0), both P Q xs (p .1) (q .1))
 
 -- ---- the key of a slot
 

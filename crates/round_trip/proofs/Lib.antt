@@ -7,3 +7,5 @@ mod Keys
 pub mod Back
 pub mod Again
 pub mod Compacted
+pub mod Calls
+pub mod Stored

@@ -1,8 +1,8 @@
 -- The loops over a block: eight bytes, or eight codes, more.
 use mathlib.Core.Path.{_≡_, refl, sym, ap, ap₂, subst, _∙_}
 use mathlib.Core.List.{List}
-use Prim.Native.Nat.{ℕ, _+_, _*_, _/_, _%_, _^_, _≤_, _<_}
-use native.Mathlib.Nat.{add-assoc}
+use Prim.Native.Nat.{ℕ, suc, _+_, _*_, _/_, _%_, _^_, _≤_, _<_}
+use native.Mathlib.Nat.{add-assoc, mul-suc}
 use native.Mathlib.Omega.{arith}
 use lib.ListN.{length, take, drop, getD, replicate}
 use lib.Ieee.{Float, nan, binary32, ofBits}
@@ -96,6 +96,36 @@ module _ (w : ℕ) (pairs query : List Float) (block : List ℕ) (bytes : Below 
   pub wide-end : (acc : List Float) (i : ℕ) → InLanes 4 terms acc i → length query ≤ i → acc ≡ wideLanes w pairs query block
   unfolding wideLanes
   wide-end acc i h l = lanes-all 4 terms acc i h (omega (arith, length-terms))
+
+-- The sums of two blocks in one loop, at a width that the function fixes: what holds after i entries, where the next word is at the byte `at`.
+module _ (w : ℕ) (pairs query : List Float) (one other : List ℕ) where
+  abbrev pub Summing : (acc acc2 : List Float) → (i at : ℕ) → Type 0
+  Summing acc acc2 i at =
+      (i ≤ length query) × (i % 8 ≡ 0) × (at ≡ w * (i / 8))
+      × InLanes 4 (pairProducts w pairs query one) acc i × InLanes 4 (pairProducts w pairs query other) acc2 i
+
+  pub summing-none : Summing (replicate 4 (ofBits binary32 0)) (replicate 4 (ofBits binary32 0)) 0 0
+  summing-none = (omega arith, refl, omega arith, lanes-none (pairProducts w pairs query one) .1, lanes-none (pairProducts w pairs query other) .1)
+
+  module _ (acc acc2 next next2 : List Float) (i at word word2 : ℕ) (s : Summing acc acc2 i at) (l : i + 8 ≤ length query) where
+    at-word : (block : List ℕ) (n : ℕ) → n ≡ number 256 (take w (drop at block)) → n ≡ number 256 (take w (drop (w * (i / 8)) block))
+    at-word block n f = f ∙ ap (λ (z : ℕ). number 256 (take w (drop z block))) (s .2)
+
+    pub summing-more : Below 256 one → Below 256 other → word ≡ number 256 (take w (drop at one)) → word2 ≡ number 256 (take w (drop at other))
+        → next ≡ tab (λ j. getD acc j nan ⊕ wordProduct (2 ^ (w + w)) pairs query word i j ⊕ wordProduct (2 ^ (w + w)) pairs query word i (4 + j)) 4
+        → next2 ≡ tab (λ j. getD acc2 j nan ⊕ wordProduct (2 ^ (w + w)) pairs query word2 i j ⊕ wordProduct (2 ^ (w + w)) pairs query word2 i (4 + j)) 4
+        → Summing next next2 (i + 8) (at + w)
+    summing-more b b2 f f2 e e2 = (
+      l,
+      omega (arith, s .1),
+      ap (λ (z : ℕ). z + w) (s .2) ∙ sym (mul-suc w (i / 8)) ∙ ap (λ (z : ℕ). w * z) {x = suc (i / 8)} {y = (i + 8) / 8} (omega arith),
+      wide-again w pairs query one b acc next i word (s .3) (s .1) l (at-word one word f) e,
+      wide-again w pairs query other b2 acc2 next2 i word2 (s .4) (s .1) l (at-word other word2 f2) e2,
+    )
+
+  pub summing-all : Below 256 one → Below 256 other → (acc acc2 : List Float) (i at : ℕ) → Summing acc acc2 i at → length query ≤ i →
+      (acc ≡ wideLanes w pairs query one) × (acc2 ≡ wideLanes w pairs query other)
+  summing-all b b2 acc acc2 i at s l = (wide-end w pairs query one b acc i (s .3) l, wide-end w pairs query other b2 acc2 i (s .4) l)
 
 -- ---- how many sums there are
 

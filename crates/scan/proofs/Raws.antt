@@ -9,8 +9,7 @@ use lib.Dec.{eqb}
 use lib.ListN.{length, take, drop, getD}
 use lib.Seq.{take-length, drop-length}
 use lib.Ieee.{Float, binary32, ofBits}
-use Rattle.pattern.specs.Binary32.{_⊕_, _⊗_, +0, sumFrom, sumOf}
-use Rattle.lists.specs.Lists.{tab}
+use Rattle.pattern.specs.Binary32.{_⊕_, _⊗_, +0, sumFrom}
 use Rattle.digits.specs.Digits.{Below}
 use Rattle.digits.proofs.Below.{below-take, below-drop}
 use Rattle.codes.specs.Packing.{bytesPerVector}
@@ -19,7 +18,7 @@ use Rattle.score.specs.Lanes.{bracketed}
 use Rattle.score.specs.Score.{byteSums, indexSums, rawSums, blockProducts, byteTerms, fitting, ofBlock, rawOfBlock, stageScore}
 use Rattle.score.proofs.Products.{length-terms}
 use Rattle.scan.specs.Scan.{takesPart, stageOf, scoreNow}
-use Rattle.scan.specs.Pairs.{Paired, Halved, byteTerm}
+use Rattle.scan.specs.Pairs.{Paired, Halved}
 use Rattle.scan.specs.Groups.{partAt, byteLanes, wideLanes, rawBy, scoreBy, rawFrom, Summed, Raw, Rescored, Grouped}
 use Rattle.scan.proofs.Products.{pair-products, byte-terms}
 use Rattle.scan.proofs.Entries.{changed-like, entry-like}

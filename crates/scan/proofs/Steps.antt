@@ -1,13 +1,13 @@
 -- Small steps: parts read and written entry by entry, bytes as a number, a slot's entry.
 use mathlib.Core.Path.{_≡_, sym, ap, _∙_}
-use mathlib.Core.Bool.{Bool, true, cond}
+use mathlib.Core.Bool.{Bool, true}
 use mathlib.Core.List.{List}
 use Prim.Native.Nat.{ℕ, suc, _+_, _-_, _*_, _≤_}
 use native.Mathlib.Nat.{add-zero}
 use native.Mathlib.Numerals.{add-one}
 use native.Mathlib.Omega.{arith}
 use borrow.Author.Tests.{eq-eqb, ne-eqb, lt-ltb, le-ltb}
-use lib.Dec.{eqb, ltb}
+use lib.Dec.{ltb}
 use lib.ListN.{length, take, drop, getD, set, length-drop}
 use lib.Seq.{sets, length-take-le, getD-take, getD-drop}
 use lib.Ieee.{Float, nan, binary32, ofBits}

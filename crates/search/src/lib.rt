@@ -6,7 +6,8 @@ ghost use Rattle.index.specs.Arrays.{lent};
 ghost use Rattle.index.specs.Step as Step;
 ghost use Rattle.index.specs.Step.{queryOf};
 ghost use Rattle.index.specs.Call.{call};
-ghost use Rattle.index.specs.Answers.{filed, files};
+ghost use Rattle.index.specs.Answers.{result, hitCount, found, LaterKept};
+use hits::Listed;
 use index::Found;
 use index::Index;
 
@@ -28,11 +29,11 @@ pub fn search(
     scores: &mut [f32],
 ) -> Found
     ensures { λ r. ⌜
-        filed index (lent (codes .entry) (scales .entry) (keys .entry) (keyed .entry) (held .entry) (alive .entry) (codes2 .entry) (scales2 .entry))
-        r (now (slots .exit)) (now (scores .exit))
-        ≡ files (call index (lent (codes .entry) (scales .entry) (keys .entry) (keyed .entry) (held .entry) (alive .entry) (codes2 .entry) (scales2 .entry))
-        (Step.search (queryOf (now (query .entry))) k (min (length (now (slots .entry))) (length (now (scores .entry))))))
-        (now (slots .entry)) (now (scores .entry)) ⌝ }
+        result index (lent (codes .entry) (scales .entry) (keys .entry) (keyed .entry) (held .entry) (alive .entry) (codes2 .entry) (scales2 .entry))
+        (found r (now (slots .exit)) (now (scores .exit)))
+        ≡ call index (lent (codes .entry) (scales .entry) (keys .entry) (keyed .entry) (held .entry) (alive .entry) (codes2 .entry) (scales2 .entry))
+        (Step.search (queryOf (now (query .entry))) k (min (length (now (slots .entry))) (length (now (scores .entry))))) ⌝ }
+    ensures { λ r. ⌜ LaterKept (hitCount r) (now (slots .entry)) (now (slots .exit)) × LaterKept (hitCount r) (now (scores .entry)) (now (scores .exit)) ⌝ }
 {
     let fault = asking::search_fault(
         index,
@@ -52,7 +53,7 @@ pub fn search(
     if fault != 0 {
         return Found::Refused(fault);
     }
-    hits::list(
+    let Listed::Hits(m) = hits::list(
         index,
         codes,
         scales,
@@ -63,5 +64,9 @@ pub fn search(
         k,
         slots,
         scores,
-    )
+    ) else {
+        // After these tests it can be made: a score is NaN.
+        return Found::Refused(12);
+    };
+    Found::Hits(m)
 }

@@ -15,15 +15,14 @@ use Rattle.choose.proofs.Choice.{choose-length}
 use Rattle.score.specs.Order.{orderNumber}
 use Rattle.lists.proofs.Tests.{both}
 use Rattle.index.specs.declared.Index.{Index}
-use Rattle.index.specs.declared.Found.{Found}
 use Rattle.index.specs.declared.Found.the-variants as Found
 use Rattle.index.specs.Arrays.{Arrays}
 use Rattle.index.specs.State.{headerOf, slotAt, stateOf}
 use Rattle.index.specs.Fit.{fit}
 use Rattle.index.specs.Step.{Hit, Query, Answer, refused, hits, firstOf, when, unless, Cell, liveFrom, hitsOf, rank, bySlot, queryRefusal, shortResult, candidates, wide, searchedCascade, answered, step}
 use Rattle.index.specs.Step as Step
-use Rattle.index.specs.Call.{Result, call}
-use Rattle.index.specs.Answers.{result, filed, files}
+use Rattle.index.specs.Call.{call}
+use Rattle.index.specs.Answers.{result, found}
 use Rattle.index.proofs.Calls.{call-misfit, call-answered}
 use Rattle.fit.proofs.Meaning.{meaning}
 use Rattle.fit.proofs.Rooms.{enough}
@@ -34,11 +33,13 @@ use Rattle.nearest.specs.Nearest as Nearest
 use Rattle.score_slot.specs.Query.{queryFault}
 use Rattle.score_slot.proofs.Query.{query-rotatable}
 use Rattle.scan.specs.Scan.{takesPart}
+use Rattle.hits.specs.declared.Listed.{Listed}
+use Rattle.hits.specs.declared.Listed.the-variants as Listed
 use Rattle.hits.specs.Hits.{scoredSlots, chosen, ready, shown, listAnswer}
 use Rattle.asking.specs.Faults.{placesFault}
 use Rattle.asking.proofs.Cells.{scores, cells, hits-listed}
 use Rattle.asking.proofs.Live.{live-length}
-use Rattle.asking.proofs.Answers.{first-nested, first-last, query-refusal, is-ready, list-files}
+use Rattle.asking.proofs.Answers.{first-nested, first-last, query-refusal, Leaves, is-ready, Other, leaves-hits, leaves-none}
 use Rattle.search_cascade.specs.Cascade.{enabled, cascadeFault}
 use Rattle.search_cascade.proofs.Candidates.{near, candidates-marked, candidates-count, marks-are}
 
@@ -161,9 +162,9 @@ module _ (x : Index) (a : Arrays) (q : Query) (k r places : ℕ) where
       go (suc s) w f o = refl
 
   module _ (f : ℕ) (is : f ≡ cascadeFault x a q k places) (ns : List ℕ) (ss : List Float) where
-    pub cascade-refused : (f ≡ 0 → ⊥) → filed x a (Found.Refused f) ns ss ≡ files (call x a (Step.searchCascade q k r places)) ns ss
+    pub cascade-refused : (f ≡ 0 → ⊥) → Leaves x a (Step.searchCascade q k r places) found (Found.Refused f) ns ns ss ss
     unfolding cascadeFault placesFault firstOf step
-    cascade-refused some = ap (λ (o : Result). files o ns ss) (go (fit x a) (enabled x) refl refl)
+    cascade-refused some = (go (fit x a) (enabled x) refl refl, (refl, refl))
       where
         first : (m w : ℕ) (o : Answer) → (m ≡ 0 → ⊥) → unless (firstOf (m ∷ w ∷ [])) o ≡ refused m
         first zero w o s = absurd (s refl)
@@ -234,19 +235,29 @@ module _ (x : Index) (a : Arrays) (q : Query) (k r places : ℕ) where
         abbrev can : Bool
         can = ready (x .n) (x .bits) (x .«working_dim») (length (q .vector))
 
-        pub cascade-listed : (found : Found) (ms : List ℕ) (ts : List Float) →
-            found ≡ listAnswer (scores (headerOf x) a q) marks (x .n) can k places →
-            ms ≡ over (map (λ e. e .0) (shown (scores (headerOf x) a q) marks (x .n) can k places)) ns →
-            ts ≡ over (map (λ e. e .1) (shown (scores (headerOf x) a q) marks (x .n) can k places)) ss →
-            filed x a found ms ts ≡ files (call x a (Step.searchCascade q k r places)) ns ss
+        yes : can ≡ true
+        yes = is-ready x a (passed .0) (ltb 0 (x .live)) q (passed .3)
+
+        answers : result x a (unless (when (nanFound marks marks-set) 12) (hits (candidateHits marks marks-set))) ≡ call x a (Step.searchCascade q k r places)
         unfolding firstOf
-        cascade-listed found ms ts g h i =
+        answers =
             let o = hits (candidateHits marks marks-set) in
-            list-files (scores (headerOf x) a q) marks (x .n) can k places
-            (is-ready x a (passed .0) (ltb 0 (x .live)) q (passed .3)) listed-fits x a found ns ms ss ts g h i
-            ∙ ap (λ (o : Result). files o ns ss) (by-tests marks marks-set (passed .0) (passed .1) (unless (when (nanFound marks marks-set) 12) o)
-            (ap (λ (m : ℕ). unless (firstOf (m ∷ when (nanFound marks marks-set) 12 ∷ [])) o) (sym is ∙ zeroed) ∙ last (nanFound marks marks-set) o))
+            by-tests marks marks-set (passed .0) (passed .1) (unless (when (nanFound marks marks-set) 12) o)
+            (ap (λ (m : ℕ). unless (firstOf (m ∷ when (nanFound marks marks-set) 12 ∷ [])) o) (sym is ∙ zeroed) ∙ last (nanFound marks marks-set) o)
           where
             last : (b : Bool) (o : Answer) → unless (firstOf (0 ∷ when b 12 ∷ [])) o ≡ unless (when b 12) o
             last true o = refl
             last false o = refl
+
+        module _ (l : Listed) (ms : List ℕ) (ts : List Float) (g : l ≡ listAnswer (scores (headerOf x) a q) marks (x .n) can k places)
+            (h : ms ≡ over (map (λ e. e .0) (shown (scores (headerOf x) a q) marks (x .n) k l)) ns)
+            (i : ts ≡ over (map (λ e. e .1) (shown (scores (headerOf x) a q) marks (x .n) k l)) ss) where
+          pub cascade-listed : (m : ℕ) → l ≡ Listed.Hits m → Leaves x a (Step.searchCascade q k r places) found (Found.Hits m) ns ms ss ts
+          cascade-listed m o =
+              leaves-hits (scores (headerOf x) a q) marks (x .n) can k places yes listed-fits l g
+              x a (Step.searchCascade q k r places) answers ns ms ss ts h i m o
+
+          pub cascade-nan : Other l → Leaves x a (Step.searchCascade q k r places) found (Found.Refused 12) ns ms ss ts
+          cascade-nan o =
+              leaves-none (scores (headerOf x) a q) marks (x .n) can k places yes listed-fits l g
+              x a (Step.searchCascade q k r places) answers ns ms ss ts h i o

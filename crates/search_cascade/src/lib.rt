@@ -6,8 +6,9 @@ ghost use Rattle.index.specs.Arrays.{lent};
 ghost use Rattle.index.specs.Step as Step;
 ghost use Rattle.index.specs.Step.{queryOf};
 ghost use Rattle.index.specs.Call.{call};
-ghost use Rattle.index.specs.Answers.{filed, files};
+ghost use Rattle.index.specs.Answers.{result, hitCount, found, LaterKept};
 ghost use Rattle.search_cascade.specs.Cascade.{enabled, cascadeFault};
+use hits::Listed;
 use index::Found;
 use index::Index;
 
@@ -112,12 +113,13 @@ pub fn search_cascade(
     slots: &mut [u32],
     scores: &mut [f32],
 ) -> Found
-    ensures { λ found. ⌜
-        filed index (lent (codes .entry) (scales .entry) (keys .entry) (keyed .entry) (held .entry) (alive .entry) (codes2 .entry) (scales2 .entry))
-        found (now (slots .exit)) (now (scores .exit))
-        ≡ files (call index (lent (codes .entry) (scales .entry) (keys .entry) (keyed .entry) (held .entry) (alive .entry) (codes2 .entry) (scales2 .entry))
-        (Step.searchCascade (queryOf (now (query .entry))) k r (min (length (now (slots .entry))) (length (now (scores .entry))))))
-        (now (slots .entry)) (now (scores .entry)) ⌝ }
+    ensures { λ answer. ⌜
+        result index (lent (codes .entry) (scales .entry) (keys .entry) (keyed .entry) (held .entry) (alive .entry) (codes2 .entry) (scales2 .entry))
+        (found answer (now (slots .exit)) (now (scores .exit)))
+        ≡ call index (lent (codes .entry) (scales .entry) (keys .entry) (keyed .entry) (held .entry) (alive .entry) (codes2 .entry) (scales2 .entry))
+        (Step.searchCascade (queryOf (now (query .entry))) k r (min (length (now (slots .entry))) (length (now (scores .entry))))) ⌝ }
+    ensures { λ answer. ⌜
+        LaterKept (hitCount answer) (now (slots .entry)) (now (slots .exit)) × LaterKept (hitCount answer) (now (scores .entry)) (now (scores .exit)) ⌝ }
 {
     let fault = cascade_fault(
         index,
@@ -140,7 +142,7 @@ pub fn search_cascade(
     let mut marks = no_marks();
     let many = candidates_wanted(k, r, index.live);
     nearest::mark_nearest(index, codes, alive, query, many, &mut marks);
-    hits::list(
+    let Listed::Hits(m) = hits::list(
         index,
         codes,
         scales,
@@ -151,5 +153,9 @@ pub fn search_cascade(
         k,
         slots,
         scores,
-    )
+    ) else {
+        // After these tests it can be made: a score is NaN.
+        return Found::Refused(12);
+    };
+    Found::Hits(m)
 }

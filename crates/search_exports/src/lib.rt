@@ -5,8 +5,8 @@ ghost use lib.ListN.{length};
 ghost use Rattle.index.specs.Arrays.{lent};
 ghost use Rattle.index.specs.Step as Step;
 ghost use Rattle.index.specs.Step.{queryOf};
-ghost use Rattle.words.specs.Put.{put};
-ghost use Rattle.words.specs.Exports.{hitsLeft, lists};
+ghost use Rattle.index.specs.Answers.{hitCount, found, foundKeyed, LaterKept};
+ghost use Rattle.words.specs.Exports.{foundIn, wordCount, answerBeside};
 use words::Record;
 
 #[no_mangle]
@@ -28,8 +28,11 @@ pub extern "C" fn vecq_search(
 ) -> u8
     ensures { λ r. let a = lent (codes .entry) (scales .entry) (keys .entry) (keyed .entry) (held .entry) (alive .entry) (codes2 .entry) (scales2 .entry) in
         let op = Step.search (queryOf (now (query .entry))) k (min (length (now (slots .entry))) (length (now (scores .entry)))) in
-        ⌜ hitsLeft (put r (now (answer .exit))) (now (slots .exit)) (now (scores .exit))
-        ≡ lists op a (now (fields .entry)) (now (answer .entry)) (now (slots .entry)) (now (scores .entry)) ⌝ }
+        ⌜ found (foundIn r (now (answer .exit))) (now (slots .exit)) (now (scores .exit))
+        ≡ answerBeside op a (now (fields .entry)) (now (answer .entry)) ⌝ }
+    ensures { λ r. ⌜ LaterKept (wordCount r) (now (answer .entry)) (now (answer .exit)) ⌝ }
+    ensures { λ r. let m = hitCount (foundIn r (now (answer .exit))) in
+        ⌜ LaterKept m (now (slots .entry)) (now (slots .exit)) × LaterKept m (now (scores .entry)) (now (scores .exit)) ⌝ }
 {
     let Record::Fields(index) = words::record_beside(fields, answer) else {
         return 13;
@@ -71,8 +74,11 @@ pub extern "C" fn vecq_search_keyed(
 ) -> u8
     ensures { λ r. let a = lent (codes .entry) (scales .entry) (keys .entry) (keyed .entry) (held .entry) (alive .entry) (codes2 .entry) (scales2 .entry) in
         let op = Step.searchKeyed (queryOf (now (query .entry))) k (min (length (now (names .entry))) (length (now (scores .entry)))) in
-        ⌜ hitsLeft (put r (now (answer .exit))) (now (names .exit)) (now (scores .exit))
-        ≡ lists op a (now (fields .entry)) (now (answer .entry)) (now (names .entry)) (now (scores .entry)) ⌝ }
+        ⌜ foundKeyed (foundIn r (now (answer .exit))) (now (names .exit)) (now (scores .exit))
+        ≡ answerBeside op a (now (fields .entry)) (now (answer .entry)) ⌝ }
+    ensures { λ r. ⌜ LaterKept (wordCount r) (now (answer .entry)) (now (answer .exit)) ⌝ }
+    ensures { λ r. let m = hitCount (foundIn r (now (answer .exit))) in
+        ⌜ LaterKept m (now (names .entry)) (now (names .exit)) × LaterKept m (now (scores .entry)) (now (scores .exit)) ⌝ }
 {
     let Record::Fields(index) = words::record_beside(fields, answer) else {
         return 13;
@@ -116,8 +122,11 @@ pub extern "C" fn vecq_search_cascade(
     ensures { λ number.
         let a = lent (codes .entry) (scales .entry) (keys .entry) (keyed .entry) (held .entry) (alive .entry) (codes2 .entry) (scales2 .entry) in
         let op = Step.searchCascade (queryOf (now (query .entry))) k r (min (length (now (slots .entry))) (length (now (scores .entry)))) in
-        ⌜ hitsLeft (put number (now (answer .exit))) (now (slots .exit)) (now (scores .exit))
-        ≡ lists op a (now (fields .entry)) (now (answer .entry)) (now (slots .entry)) (now (scores .entry)) ⌝ }
+        ⌜ found (foundIn number (now (answer .exit))) (now (slots .exit)) (now (scores .exit))
+        ≡ answerBeside op a (now (fields .entry)) (now (answer .entry)) ⌝ }
+    ensures { λ number. ⌜ LaterKept (wordCount number) (now (answer .entry)) (now (answer .exit)) ⌝ }
+    ensures { λ number. let m = hitCount (foundIn number (now (answer .exit))) in
+        ⌜ LaterKept m (now (slots .entry)) (now (slots .exit)) × LaterKept m (now (scores .entry)) (now (scores .exit)) ⌝ }
 {
     let Record::Fields(index) = words::record_beside(fields, answer) else {
         return 13;

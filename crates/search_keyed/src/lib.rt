@@ -8,8 +8,9 @@ ghost use Rattle.index.specs.Arrays.{lent};
 ghost use Rattle.index.specs.Step as Step;
 ghost use Rattle.index.specs.Step.{queryOf};
 ghost use Rattle.index.specs.Call.{call};
-ghost use Rattle.index.specs.Answers.{filed, files};
-ghost use Rattle.search_keyed.specs.Named.{hitCount, keyedOf, namedAnswer};
+ghost use Rattle.index.specs.Answers.{result, hitCount, foundKeyed, LaterKept};
+ghost use Rattle.search_keyed.specs.Named.{listedCount, keyedOf, namedAnswer};
+use hits::Listed;
 use index::Found;
 use index::Index;
 
@@ -30,10 +31,10 @@ fn few_scores() -> [f32; 1024] {
     [0.0; 1024]
 }
 
-// Names the hits that a list answers, in the first places of `slots` and `found`; a refusal is passed on.
+// Names the hits that a list answers, in the first places of `slots` and `found`; 12 where it answers none.
 // One function for both sizes of working arrays: what naming needs of memory is never there together with what listing needs.
 fn name_hits(
-    listed: Found,
+    listed: Listed,
     keys: &[u64],
     keyed: &[bool],
     slots: &[u32],
@@ -41,7 +42,7 @@ fn name_hits(
     names: &mut [u64],
     scores: &mut [f32],
 ) -> Found
-    requires { ⌜ (hitCount listed ≤ length (now slots)) × (hitCount listed ≤ length (now found)) ⌝ }
+    requires { ⌜ (listedCount listed ≤ length (now slots)) × (listedCount listed ≤ length (now found)) ⌝ }
     ensures { λ r. ⌜ r ≡ namedAnswer listed (keyedOf (now (keys .entry)) (now (keyed .entry)) (now (slots .entry)) (now (found .entry))
         (min (length (now (names .entry))) (length (now (scores .entry)))) listed) ⌝ }
     ensures { λ _. ⌜ now (names .exit) ≡ over (map (λ e. e .0) (keyedOf (now (keys .entry)) (now (keyed .entry)) (now (slots .entry)) (now (found .entry))
@@ -49,8 +50,8 @@ fn name_hits(
     ensures { λ _. ⌜ now (scores .exit) ≡ over (map (λ e. e .1) (keyedOf (now (keys .entry)) (now (keyed .entry)) (now (slots .entry)) (now (found .entry))
         (min (length (now (names .entry))) (length (now (scores .entry)))) listed)) (now (scores .entry)) ⌝ }
 {
-    let Found::Hits(m) = listed else {
-        return listed;
+    let Listed::Hits(m) = listed else {
+        return Found::Refused(12);
     };
     let n = distinct::list_keys(keys, keyed, &slots[0..m], &found[0..m], names, scores);
     Found::Hits(n)
@@ -74,11 +75,11 @@ pub fn search_keyed(
     scores: &mut [f32],
 ) -> Found
     ensures { λ r. ⌜
-        filed index (lent (codes .entry) (scales .entry) (keys .entry) (keyed .entry) (held .entry) (alive .entry) (codes2 .entry) (scales2 .entry))
-        r (now (names .exit)) (now (scores .exit))
-        ≡ files (call index (lent (codes .entry) (scales .entry) (keys .entry) (keyed .entry) (held .entry) (alive .entry) (codes2 .entry) (scales2 .entry))
-        (Step.searchKeyed (queryOf (now (query .entry))) k (min (length (now (names .entry))) (length (now (scores .entry))))))
-        (now (names .entry)) (now (scores .entry)) ⌝ }
+        result index (lent (codes .entry) (scales .entry) (keys .entry) (keyed .entry) (held .entry) (alive .entry) (codes2 .entry) (scales2 .entry))
+        (foundKeyed r (now (names .exit)) (now (scores .exit)))
+        ≡ call index (lent (codes .entry) (scales .entry) (keys .entry) (keyed .entry) (held .entry) (alive .entry) (codes2 .entry) (scales2 .entry))
+        (Step.searchKeyed (queryOf (now (query .entry))) k (min (length (now (names .entry))) (length (now (scores .entry))))) ⌝ }
+    ensures { λ r. ⌜ LaterKept (hitCount r) (now (names .entry)) (now (names .exit)) × LaterKept (hitCount r) (now (scores .entry)) (now (scores .exit)) ⌝ }
 {
     let fault = asking::search_fault(
         index,

@@ -1,2 +1,2 @@
--- Whether a slot has a key.
+-- The key of a slot.
 pub mod Has

@@ -1,3 +1,3 @@
--- Laws of sorted slots, and of sorting by digits.
+-- Laws of sorted slots.
 pub mod Sorted
-mod Radix
+mod Digits

@@ -1,3 +1,2 @@
--- What sorting slots gives, and the words of the steps on the way.
+-- What sorting slots gives.
 pub mod Sort
-pub mod Digits

@@ -2,23 +2,25 @@
 -- its record and its answer over the first places of `fields` and `answer`.
 use mathlib.Core.Bool.{cond}
 use mathlib.Core.List.{List, [], _∷_}
-use Prim.Native.Nat.{ℕ}
-use lib.ListN.{length}
-use lib.Dec.{ltb}
-use lib.Ieee.{Float}
+use Prim.Native.Nat.{ℕ, zero, suc}
+use lib.ListN.{getD}
+use lib.Dec.{eqb}
 use Rattle.lists.specs.Lists.{over}
 use Rattle.encode.specs.declared.Header.{Header}
 use Rattle.index.specs.declared.Index.{Index}
+use Rattle.index.specs.declared.Found.{Found}
+use Rattle.index.specs.declared.Found.the-variants as Found
+use Rattle.index.specs.declared.Written.{Written}
+use Rattle.index.specs.declared.Written.the-variants as Written
 use Rattle.index.specs.Arrays.{Arrays}
-use Rattle.index.specs.Step.{Op, Answer, refused, done, flag, slot, maybeSlot, maybeKey, scoreIs, hits, keyHits, size, bytes, write}
+use Rattle.index.specs.Step.{Op, Answer, refused, done, flag, slot, maybeSlot, maybeKey, scoreIs, hits, keyHits, size, bytes}
 use Rattle.index.specs.Call.{Result, call}
-use Rattle.index.specs.Answers.{files, stores}
 use Rattle.index.specs.Make.{make}
 use Rattle.index.specs.Read.{readInto}
 use Rattle.words.specs.declared.Record.{Record}
 use Rattle.words.specs.declared.Record.the-variants as Record
-use Rattle.words.specs.Words.{recordWords, wordsOf, recordIn, recordBeside}
-use Rattle.words.specs.Put.{Put, put, putMade, putFound, putWritten}
+use Rattle.words.specs.Words.{wordsOf, recordIn, recordBeside}
+use Rattle.words.specs.Put.{putMade}
 
 abbrev pub byRecord : {A : Type 0} → Record → (misfit : A) → (Index → A) → A
 byRecord Record.Misfit m f = m
@@ -70,37 +72,29 @@ makes h fs a =
     let p = putMade (m .answer) fs in
     left (p .number) (p .words) [] (m .arrays)
 
--- reading: the places for the record come before its own tests
+-- reading: as in making, its own tests come before the places for the record. Where it is refused no array is written.
 unfoldable pub reads : (file fields : List ℕ) → Arrays → Left
 reads file fs a =
     let r = readInto a file in
     let p = putMade (r .answer) fs in
-    cond (ltb (length fs) recordWords) (left 13 fs [] a) (left (p .number) (p .words) [] (r .arrays))
+    left (p .number) (p .words) [] (cond (eqb (p .number) 0) (r .arrays) a)
 
--- ---- searches and writing
+-- ---- searches and writing: they change no record, and their answer is in the number, the first word of `answer` and the lent slices
 
--- numbers of slots, or keys for a keyed search
-pub record HitsLeft : Type 0 where
-  pub answer : Put
-  pub numbers : List ℕ
-  pub scores : List Float
+-- what number and word say: 0 and how many, or a refusal
+abbrev pub foundIn : (number : ℕ) → (answer : List ℕ) → Found
+foundIn zero ws = Found.Hits (getD ws 0 0)
+foundIn (suc n) ws = Found.Refused (suc n)
 
-abbrev pub hitsLeft : Put → (numbers : List ℕ) → (scores : List Float) → HitsLeft
-hitsLeft p ns ss = record { answer = p; numbers = ns; scores = ss }
+abbrev pub writtenIn : (number : ℕ) → (answer : List ℕ) → Written
+writtenIn zero ws = Written.Bytes (getD ws 0 0)
+writtenIn (suc n) ws = Written.Refused (suc n)
 
-unfoldable pub lists : Op → Arrays → (fields answer numbers : List ℕ) → (scores : List Float) → HitsLeft
-lists op a fs ws ns ss =
-    byRecord (recordBeside fs ws) (hitsLeft (put 13 ws) ns ss)
-    (λ x. let found = files (call x a op) ns ss in hitsLeft (putFound (found .answer) ws) (found .numbers) (found .scores))
+-- how many words are written: one, or none for a refusal
+abbrev pub wordCount : (number : ℕ) → ℕ
+wordCount zero = 1
+wordCount (suc n) = 0
 
-pub record FileLeft : Type 0 where
-  pub answer : Put
-  pub file : List ℕ
-
-abbrev pub fileLeft : Put → (file : List ℕ) → FileLeft
-fileLeft p file = record { answer = p; file = file }
-
-unfoldable pub writes : Arrays → (fields answer file : List ℕ) → FileLeft
-writes a fs ws file =
-    byRecord (recordBeside fs ws) (fileLeft (put 13 ws) file)
-    (λ x. let made = stores (call x a (write (length file))) file in fileLeft (putWritten (made .answer) ws) (made .file))
+-- the answer of the call on the record beside an answer; 13 where there is none
+unfoldable pub answerBeside : Op → Arrays → (fields answer : List ℕ) → Answer
+answerBeside op a fs ws = byRecord (recordBeside fs ws) (refused 13) (λ x. call x a op .answer)

@@ -11,6 +11,7 @@ use lib.Dec.{ltb}
 use borrow.Author.Tests.{lt-ltb, le-ltb}
 use Rattle.lists.specs.Lists.{over}
 use Rattle.index.specs.declared.Index.{Index}
+use Rattle.index.specs.declared.Written.{Written}
 use Rattle.index.specs.declared.Written.the-variants as Written
 use Rattle.index.specs.Arrays.{Arrays}
 use Rattle.index.specs.State.{headerOf, stateOf}
@@ -18,8 +19,9 @@ use Rattle.index.specs.Fit.{fit}
 use Rattle.index.specs.File.{Entry, versionOf}
 use Rattle.index.specs.Step.{Answer, refused, size, bytes, fileLength, write, liveFrom, fileBytes, answered, when, unless, step}
 use Rattle.index.specs.Call.{Result, call}
-use Rattle.index.specs.Answers.{result, stored, stores}
+use Rattle.index.specs.Answers.{result, byteCount, wrote, LaterKept}
 use Rattle.index.proofs.Calls.{call-misfit, call-answered}
+use Rattle.index.proofs.Lent.{entries-there}
 use Rattle.write.specs.Put.{PutFrom}
 use Rattle.write.specs.Pieces.{filePieces}
 use Rattle.write.proofs.Pieces.{file-pieces}
@@ -63,23 +65,27 @@ module _ (x : Index) (a : Arrays) where
   -- ---- the three ends
 
   module _ (old : List ℕ) where
-    pub write-misfit : (k : ℕ) → fit x a ≡ false → k ≡ 13 → stored x a (Written.Refused k) old ≡ stores (call x a (write (length old))) old
-    write-misfit k e f = ap (λ (n : ℕ). stored x a (Written.Refused n) old) f ∙ ap (λ (r : Result). stores r old) (sym (call-misfit x a (write (length old)) e))
+    -- what the call leaves: its answer, and the later places of the file
+    abbrev Leaves : Written → (next : List ℕ) → Type 0
+    Leaves r next = (result x a (wrote r next) ≡ call x a (write (length old))) × LaterKept (byteCount r) old next
+
+    pub write-misfit : (k : ℕ) → fit x a ≡ false → k ≡ 13 → Leaves (Written.Refused k) old
+    write-misfit k e f = (ap (λ (n : ℕ). result x a (refused n)) f ∙ sym (call-misfit x a (write (length old)) e), refl)
 
     module _ (e : fit x a ≡ true) where
-      answer : (r : Answer) → unless (when (ltb (length old) (length file)) 13) (bytes file) ≡ r
-          → stores (result x a r) old ≡ stores (call x a (write (length old))) old
+      answer : (r : Answer) → unless (when (ltb (length old) (length file)) 13) (bytes file) ≡ r → result x a r ≡ call x a (write (length old))
       unfolding step stateOf
-      answer r f = ap (λ (z : Result). stores z old) (sym (call-answered x a (write (length old)) e r (ap (answered (stateOf x a)) f)))
+      answer r f = sym (call-answered x a (write (length old)) e r (ap (answered (stateOf x a)) f))
 
-      pub write-short : (n : ℕ) → n ≡ length file → length old < n → stored x a (Written.Refused 13) old ≡ stores (call x a (write (length old))) old
-      write-short n f l = answer (refused 13) (rw (lt-ltb (length old) (length file) (omega arith)))
+      pub write-short : (n : ℕ) → n ≡ length file → length old < n → Leaves (Written.Refused 13) old
+      write-short n f l = (answer (refused 13) (rw (lt-ltb (length old) (length file) (omega arith))), refl)
 
       pub write-done : (v n next : ℕ) (new : List ℕ) → ((es : List Entry) → v ≡ versionOf (headerOf x) es) → n ≡ length file → n ≤ length old
-          → PutFrom (pieces v) 0 next old new → stored x a (Written.Bytes n) new ≡ stores (call x a (write (length old))) old
+          → PutFrom (pieces v) 0 next old new → Leaves (Written.Bytes n) new
       unfolding stateOf over
       write-done v n next new d f l p =
-          (λ j. stored x a (Written.Bytes (f j)) (there j)) ∙ answer (bytes file) (rw (le-ltb (length old) (length file) (omega arith)))
+          let first = entries-there file old n new f there in
+          (ap (λ (bs : List ℕ). result x a (bytes bs)) (first .0) ∙ answer (bytes file) (rw (le-ltb (length old) (length file) (omega arith))), first .1)
         where
           there : new ≡ over file old
           there =

@@ -88,23 +88,23 @@ module _ (h : Header) (a : Arrays) where
       ap (map entry) (keep-append (liveAt (a .alive)) (below n) (n ∷ [])) ∙ map-append entry (numbers h a n) (cond (liveAt (a .alive) n) (n ∷ []) [])
       ∙ ap (λ (es : List Entry). entries n ++ es) (map-one entry (liveAt (a .alive) n) n)
 
-  abbrev keyAt : ℕ → List ℕ
-  keyAt = keyPiece (a .keys) (a .keyed) (a .alive)
+  abbrev entryBytes : ℕ → List ℕ
+  entryBytes = keyPiece (a .keys) (a .keyed) (a .alive)
 
-  last-entry : (n : ℕ) → joined (keyEntries (count (liveAt (a .alive)) (below n)) (entryIf n)) ≡ keyAt n
+  last-entry : (n : ℕ) → joined (keyEntries (count (liveAt (a .alive)) (below n)) (entryIf n)) ≡ entryBytes n
   unfolding slotAt keyPiece
   last-entry n =
       one-entry (slotAt h a n .code) (getD (a .alive) n 0) (getD (a .keyed) n false) (getD (a .keys) n 0) (getD (a .held) n 0)
       (count (liveAt (a .alive)) (below n))
 
-  key-pieces : (n : ℕ) → joined (keyEntries 0 (entries n)) ≡ inOrder keyAt n
+  key-pieces : (n : ℕ) → joined (keyEntries 0 (entries n)) ≡ inOrder entryBytes n
   unfolding joined keyEntries
   key-pieces zero = refl
   key-pieces (suc n) =
       ap (λ (es : List Entry). joined (keyEntries 0 es)) (entries-more n) ∙ ap joined (entries-append 0 (entries n) (entryIf n))
-      ∙ joined-append (keyEntries 0 (entries n)) (keyEntries (0 + length (entries n)) (entryIf n)) ∙ ap₂ _++_ (key-pieces n) last ∙ sym (order-more keyAt n)
+      ∙ joined-append (keyEntries 0 (entries n)) (keyEntries (0 + length (entries n)) (entryIf n)) ∙ ap₂ _++_ (key-pieces n) last ∙ sym (order-more entryBytes n)
     where
-      last : joined (keyEntries (0 + length (entries n)) (entryIf n)) ≡ keyAt n
+      last : joined (keyEntries (0 + length (entries n)) (entryIf n)) ≡ entryBytes n
       last = ap (λ (j : ℕ). joined (keyEntries j (entryIf n))) (zero-add (length (entries n)) ∙ live-many h a n) ∙ last-entry n
 
   -- ---- stages

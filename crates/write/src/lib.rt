@@ -11,7 +11,7 @@ ghost use Rattle.index.specs.State.{headerOf};
 ghost use Rattle.index.specs.File.{leBytes, widthByte, headBytes};
 ghost use Rattle.index.specs.Step as Step;
 ghost use Rattle.index.specs.Call.{call};
-ghost use Rattle.index.specs.Answers.{stored, stores};
+ghost use Rattle.index.specs.Answers.{result, byteCount, wrote, LaterKept};
 ghost use Rattle.layout.specs.Counts.{entryAt};
 ghost use Rattle.write.specs.Put.{PutFrom};
 ghost use Rattle.write.specs.Pieces.{inOrder, scalePiece, codePiece, keyPiece, stagePieces, secondPieces, filePieces};
@@ -308,10 +308,11 @@ pub fn to_bytes(
     file: &mut [u8],
 ) -> Written
     ensures { λ r. ⌜
-        stored index (lent (codes .entry) (scales .entry) (keys .entry) (keyed .entry) (held .entry) (alive .entry) (codes2 .entry) (scales2 .entry))
-        r (now (file .exit))
-        ≡ stores (call index (lent (codes .entry) (scales .entry) (keys .entry) (keyed .entry) (held .entry) (alive .entry) (codes2 .entry) (scales2 .entry))
-        (Step.write (length (now (file .entry))))) (now (file .entry)) ⌝ }
+        result index (lent (codes .entry) (scales .entry) (keys .entry) (keyed .entry) (held .entry) (alive .entry) (codes2 .entry) (scales2 .entry))
+        (wrote r (now (file .exit)))
+        ≡ call index (lent (codes .entry) (scales .entry) (keys .entry) (keyed .entry) (held .entry) (alive .entry) (codes2 .entry) (scales2 .entry))
+        (Step.write (length (now (file .entry)))) ⌝ }
+    ensures { λ r. ⌜ LaterKept (byteCount r) (now (file .entry)) (now (file .exit)) ⌝ }
 {
     let measured = layout::file_length(
         index,

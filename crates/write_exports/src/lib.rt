@@ -1,8 +1,10 @@
 // Writing, for C and Rust. `fields` are the words of the record (crate words); how many bytes goes to the first place of `answer`.
 ghost use mathlib.Core.Path.{_≡_};
+ghost use lib.ListN.{length};
 ghost use Rattle.index.specs.Arrays.{lent};
-ghost use Rattle.words.specs.Put.{put};
-ghost use Rattle.words.specs.Exports.{fileLeft, writes};
+ghost use Rattle.index.specs.Step as Step;
+ghost use Rattle.index.specs.Answers.{byteCount, wrote, LaterKept};
+ghost use Rattle.words.specs.Exports.{writtenIn, wordCount, answerBeside};
 use words::Record;
 
 #[no_mangle]
@@ -20,7 +22,10 @@ pub extern "C" fn vecq_to_bytes(
     file: &mut [u8],
 ) -> u8
     ensures { λ r. let a = lent (codes .entry) (scales .entry) (keys .entry) (keyed .entry) (held .entry) (alive .entry) (codes2 .entry) (scales2 .entry) in
-        ⌜ fileLeft (put r (now (answer .exit))) (now (file .exit)) ≡ writes a (now (fields .entry)) (now (answer .entry)) (now (file .entry)) ⌝ }
+        let op = Step.write (length (now (file .entry))) in
+        ⌜ wrote (writtenIn r (now (answer .exit))) (now (file .exit)) ≡ answerBeside op a (now (fields .entry)) (now (answer .entry)) ⌝ }
+    ensures { λ r. ⌜ LaterKept (wordCount r) (now (answer .entry)) (now (answer .exit)) ⌝ }
+    ensures { λ r. ⌜ LaterKept (byteCount (writtenIn r (now (answer .exit)))) (now (file .entry)) (now (file .exit)) ⌝ }
 {
     let Record::Fields(index) = words::record_beside(fields, answer) else {
         return 13;

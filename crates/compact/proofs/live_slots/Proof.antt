@@ -1,4 +1,5 @@
 -- `compact::live_slots` meets its contract.
+use mathlib.Core.Path.{sym, _∙_}
 use mathlib.Core.Logic.{⊎-elim}
 use Prim.Native.Nat.{_-_}
 use native.Mathlib.Omega.{arith}
@@ -15,8 +16,8 @@ abbrev μ-loop : tie.MeasureT-loop
 loop-holds : tie.Need-loop-holds Inv-loop μ-loop
 loop-holds c = listed-none _ _ _ (c .before .before .pre .0)
 
-live-mark-requires : tie.Need-live-mark-requires Inv-loop μ-loop
-live-mark-requires c κs = tt
+is-live-requires : tie.Need-is-live-requires Inv-loop μ-loop
+is-live-requires c κs = tt
 
 mul-slots : tie.Need-mul-slots Inv-loop μ-loop
 mul-slots c = omega (arith, listed-few _ _ _ (c .before .before .before .before .before .before .pre .0) (c .before .before .before .loop .inv))
@@ -41,8 +42,8 @@ loop-again c =
     let s = c .before .before .before .before .before .before in
     let m = c .before .before .before .loop .inv in
     let l = c .before .before .loop-test .taken in
-    let e = c .before .live-mark .ensures in
-    ⊎-elim (λ w. rw (w .1, w .2) (listed-more _ _ _ (s .pre .0) m l (rw e at (w .0 .taken)))) (λ w. rw (w .1, w .2) (listed-same _ _ _ (s .pre .0) m l (rw e at (w .0 .left)))) (c .if1 .came)
+    let e = c .before .is-live .ensures in
+    ⊎-elim (λ w. rw (w .1, w .2) (listed-more _ _ _ (s .pre .0) m l (sym e ∙ w .0 .taken))) (λ w. rw (w .1, w .2) (listed-same _ _ _ (s .pre .0) m l (sym e ∙ w .0 .left))) (c .if1 .came)
 
 same-length : tie.Need-same-length Inv-loop μ-loop
 same-length c = listed-length _ _ _ (c .before .before .before .before .pre .0) (c .before .loop .inv)
@@ -57,7 +58,7 @@ live-slots-spec =
     Inv-loop
     μ-loop
     loop-holds
-    live-mark-requires
+    is-live-requires
     cast-slots
     mul-slots
     slice-write-slots

@@ -1,35 +1,45 @@
 -- `distinct::is_first` meets its contract.
 use mathlib.Core.Path.{sym, _∙_}
-use Rattle.chains.proofs.Chains.{chains-unkeyed}
-use Rattle.distinct.proofs.Places.{first-unkeyed}
+use mathlib.Core.Bool.{and-true, and-false}
+use borrow.Author.Tests.{eq-eqb, ne-eqb}
 use borrow.Author.Needs.{needs}
+use Rattle.previous.specs.Previous.{placeKeyed}
 use Rattle.distinct.proofs.is_first.Statement.{statement}
 use Rattle.distinct.proofs.is_first.Tie as tie
 
-place-keyed-requires : tie.Need-place-keyed-requires
-place-keyed-requires c κs = search needs
+mul-if1 : tie.Need-mul-if1
+mul-if1 c = search needs
 
-enter-requires : tie.Need-enter-requires
-enter-requires c κs =
-    let s = c .before .before .before .before .before .before .before .before .before in
-    (sym (c .before .before .before .place-keyed .ensures) ∙ c .before .before .if1 .taken, s .pre)
+shared-slice-read-if1 : tie.Need-shared-slice-read-if1
+shared-slice-read-if1 c = search needs
 
-same-length : tie.Need-same-length
-same-length c = search needs
+mul-wide : tie.Need-mul-wide
+mul-wide c = search needs
 
-same-length-2 : tie.Need-same-length-2
-same-length-2 c = search needs
+shared-slice-read-wide : tie.Need-shared-slice-read-wide
+shared-slice-read-wide c = search needs
+
+wide-requires : tie.Need-wide-requires
+wide-requires c κs = search needs
+
+is-keyed-requires : tie.Need-is-keyed-requires
+is-keyed-requires c κs = search needs
 
 returns : tie.Need-returns
-returns c = search needs
+returns c = rw (eq-eqb _ 0 (c .before .before .before .if1 .taken)) (rw (c .before .wide .ensures) at (c .is-keyed .ensures) ∙ sym (and-true _))
 
 returns-2 : tie.Need-returns-2
-returns-2 c =
-    let s = c .before .before .before .before .before .before .before in
-    let off = sym (c .before .place-keyed .ensures) ∙ c .if1 .left in
-    (first-unkeyed _ _ _ off, chains-unkeyed _ _ _ _ _ off (s .pre .1))
+returns-2 c = rw (ne-eqb _ 0 (c .if1 .left)) (sym (and-false (placeKeyed (c .before .before .before .before .before .args .keyed .now) (c .before .before .before .before .before .args .slots .now) (c .before .before .before .before .before .args .place))))
 
 pub is-first-spec : {M : Type 1} → statement M
 is-first-spec =
     tie.close
-    (tie.spec place-keyed-requires enter-requires same-length same-length-2 returns returns-2)
+    (tie.spec
+    mul-if1
+    shared-slice-read-if1
+    mul-wide
+    shared-slice-read-wide
+    wide-requires
+    is-keyed-requires
+    returns
+    returns-2)

@@ -1,7 +1,7 @@
 -- `distinct::list_keys` meets its contract.
 use native.Mathlib.Omega.{arith}
-use Rattle.distinct.proofs.Writing.{shown-many, few-names, few-scores, shown-all}
 use borrow.Author.Needs.{needs}
+use Rattle.distinct.proofs.Writing.{shown-many, few-names, few-scores, shown-all}
 use Rattle.distinct.proofs.list_keys.Statement.{statement}
 use Rattle.distinct.proofs.list_keys.Tie as tie
 

@@ -1,15 +1,24 @@
 -- `distinct::write_place` meets its contract.
-
+use mathlib.Core.Path.{sym, _∙_}
 use borrow.Author.Needs.{needs}
 use Rattle.distinct.proofs.Writing.{put-marked, put-none}
 use Rattle.distinct.proofs.write_place.Statement.{statement}
 use Rattle.distinct.proofs.write_place.Tie as tie
 
-shared-slice-read-if1 : tie.Need-shared-slice-read-if1
-shared-slice-read-if1 c = search needs
+is-first-requires : tie.Need-is-first-requires
+is-first-requires c κs = search needs
 
-place-word-requires : tie.Need-place-word-requires
-place-word-requires c κs = search needs
+mul-wide : tie.Need-mul-wide
+mul-wide c = search needs
+
+shared-slice-read-wide : tie.Need-shared-slice-read-wide
+shared-slice-read-wide c = search needs
+
+wide-requires : tie.Need-wide-requires
+wide-requires c κs = search needs
+
+key-word-requires : tie.Need-key-word-requires
+key-word-requires c κs = search needs
 
 mul-names : tie.Need-mul-names
 mul-names c = search needs
@@ -39,17 +48,20 @@ same-length-2 : tie.Need-same-length-2
 same-length-2 c = search needs
 
 returns : tie.Need-returns
-returns c = put-marked _ _ _ _ _ _ (c .before .before .if1 .taken) _ (c .before .place-word .ensures)
+returns c = put-marked _ _ _ _ _ _ (sym (c .before .before .before .before .before .is-first .ensures) ∙ c .before .before .before .before .if1 .taken) _ (rw (c .before .before .wide .ensures) at (c .before .key-word .ensures))
 
 returns-2 : tie.Need-returns-2
-returns-2 c = put-none _ _ _ _ _ _ (c .if1 .left)
+returns-2 c = put-none _ _ _ _ _ _ (sym (c .before .is-first .ensures) ∙ c .if1 .left)
 
 pub write-place-spec : {M : Type 1} → statement M
 write-place-spec =
     tie.close
     (tie.spec
-    shared-slice-read-if1
-    place-word-requires
+    is-first-requires
+    mul-wide
+    shared-slice-read-wide
+    wide-requires
+    key-word-requires
     mul-names
     slice-write-names
     mul-scores

@@ -1,5 +1,4 @@
 use mathlib.Core.Path.{_∙_}
-use Rattle.encode.specs.Encode.{floor}
 use Rattle.encode.proofs.FloatTests.{larger-nan, larger-right, larger-left, floor-is}
 use Rattle.encode.proofs.at_least_floor.Statement.{statement}
 use Rattle.encode.proofs.at_least_floor.Tie as tie

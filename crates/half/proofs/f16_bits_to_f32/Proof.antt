@@ -6,7 +6,7 @@ use borrow.Author.Needs.{needs}
 use lib.Dec.{lit<}
 use lib.Count.{leadingZeros}
 use lib.Bits.{bitAnd, and-mask}
-use Rattle.half.proofs.Digits.{single, Shift, shift-of}
+use Rattle.half.proofs.Digits.{single, Shift, zeros-plus-one}
 use Rattle.half.proofs.Widen.{normal, nothing, subnormal, finite, special, meets}
 use Rattle.half.proofs.f16_bits_to_f32.Statement.{statement}
 use Rattle.half.proofs.f16_bits_to_f32.Tie as tie
@@ -26,10 +26,10 @@ is-frac h = sym (and-mask h 10)
 
 -- ---- the shift of a fraction that is not 0
 abbrev shift : ℕ → ℕ
-shift h = leadingZeros 32 (frac h) - 21
+shift h = leadingZeros 32 (frac h) - 22 + 1
 
-shift-bound : (h : ℕ) → (frac h ≡ 0 → ⊥) → (21 ≤ leadingZeros 32 (frac h)) × Shift 10 (frac h) (shift h)
-shift-bound h n = shift-of 10 (frac h) (lit< tt) (omega (arith, n)) (omega (arith, is-frac h))
+shift-bound : (h : ℕ) → (frac h ≡ 0 → ⊥) → (22 ≤ leadingZeros 32 (frac h)) × Shift 10 (frac h) (shift h)
+shift-bound h n = zeros-plus-one 10 (frac h) (lit< tt) (omega (arith, n)) (omega (arith, is-frac h))
 
 cast-sign : tie.Need-cast-sign
 cast-sign c = search needs
@@ -67,8 +67,11 @@ returns-3 c =
     let z : h % 1024 ≡ 0 = omega (arith, is-frac h) in
     meets h _ (omega (arith, finite h 0 0 e z 0 (lit< tt) nothing))
 
-sub-shift : tie.Need-sub-shift
-sub-shift c = shift-bound (c .before .before .before .args .h) (c .if3 .left) .0
+sub-zeros : tie.Need-sub-zeros
+sub-zeros c = shift-bound (c .before .before .before .args .h) (c .if3 .left) .0
+
+add-shift : tie.Need-add-shift
+add-shift c = omega (arith, shift-bound (c .before .before .before .args .h) (c .if3 .left) .1 .most)
 
 shl-rest : tie.Need-shl-rest
 shl-rest c = omega (arith, shift-bound (c .before .before .before .args .h) (c .if3 .left) .1 .most)
@@ -101,7 +104,8 @@ f16-bits-to-f32-spec =
     add-result
     returns-2
     returns-3
-    sub-shift
+    sub-zeros
+    add-shift
     shl-rest
     sub-result
     returns-4)

@@ -7,7 +7,7 @@ use Rattle.held_order.proofs.next_position.Statement.{statement}
 use Rattle.held_order.proofs.next_position.Tie as tie
 
 returns : tie.Need-returns
-returns c = search needs
+returns c = rw (c .if1 .taken)
 
 sub-result : tie.Need-sub-result
 sub-result c = search needs

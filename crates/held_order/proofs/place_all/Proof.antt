@@ -1,51 +1,60 @@
 -- `held_order::place_all` meets its contract.
-use Prim.Native.Nat.{_-_}
+use Prim.Native.Nat.{_≤_, _-_}
 use native.Mathlib.Omega.{arith}
+use lib.ListN.{length}
 use borrow.Author.Needs.{needs}
-use Rattle.lists.proofs.Writing.{written-all}
-use Rattle.held_order.proofs.Positions.{Entered, entered-none, entered-more}
+use Rattle.held_order.proofs.Positions.{Placing, placing-none, placing-more}
 use Rattle.held_order.proofs.place_all.Statement.{statement}
 use Rattle.held_order.proofs.place_all.Tie as tie
 
 abbrev Inv-loop : tie.InvT-loop
-Inv-loop keys keyed held₀ heads₀ before₀ n i₀ held heads before i = Entered keys keyed n held₀ heads₀ before₀ held heads before i
+Inv-loop before held₀ i₀ held i = Placing before held₀ held i
 
 abbrev μ-loop : tie.MeasureT-loop
-μ-loop keys keyed held₀ heads₀ before₀ n i₀ held heads before i = n - i
+μ-loop before held₀ i₀ held i = length held₀ - i
 
 loop-holds : tie.Need-loop-holds Inv-loop μ-loop
-loop-holds c = let s = c .before .before .before .before .before in entered-none _ _ _ _ _ _ (s .pre .0 .0) (s .pre .1)
+loop-holds c = placing-none _ _
 
-place-requires : tie.Need-place-requires Inv-loop μ-loop
-place-requires c κs =
-    let s = c .before .before .before .before .before .before .before .before .before .before in
-    let m = c .before .before .before .before .loop .inv in
-    let l = c .before .before .before .loop-test .taken in
-    ((omega (arith, m .written .same, s .pre .0 .0), omega (arith, m .before-same, s .pre .0 .1), omega (arith, s .pre .0 .2), omega (arith, m .heads-same, s .pre .0 .3)), (m .placed, m .chains))
+mul-wide : tie.Need-mul-wide Inv-loop μ-loop
+mul-wide c = omega (arith, c .before .before .loop .inv .same, c .before .loop-test .taken, c .before .before .before .before .before .pre .1)
+
+shared-slice-read-wide : tie.Need-shared-slice-read-wide Inv-loop μ-loop
+shared-slice-read-wide c = omega (arith, c .before .before .before .loop .inv .same, c .before .before .loop-test .taken, c .before .before .before .before .before .before .pre .0)
+
+wide-requires : tie.Need-wide-requires Inv-loop μ-loop
+wide-requires c κs = search needs
+
+-- the entry is that of a slot below i
+entry-low : (c : tie.After-wide Inv-loop μ-loop) → c .wide .result ≤ c .before .before .before .before .loop .i
+entry-low c = omega (arith, c .wide .ensures, c .before .before .before .before .before .before .before .pre .2 (c .before .before .before .before .loop .i) (omega (arith, c .before .before .before .before .loop .inv .same, c .before .before .before .loop-test .taken)))
+
+next-position-requires : tie.Need-next-position-requires Inv-loop μ-loop
+next-position-requires c κs = let m = c .before .before .before .before .loop .inv in
+    (omega (arith, entry-low c, c .before .before .before .loop-test .taken), λ j e. omega (arith, entry-low c, m .low j (omega (arith, entry-low c)), m .few, c .before .before .before .before .before .before .before .pre .1))
+
+mul-held : tie.Need-mul-held Inv-loop μ-loop
+mul-held c = omega (arith, c .before .before .before .before .before .loop .inv .same, c .before .before .before .before .loop-test .taken, c .before .before .before .before .before .before .before .before .pre .1)
+
+slice-write-held : tie.Need-slice-write-held Inv-loop μ-loop
+slice-write-held c = c .before .before .before .before .loop-test .taken
 
 add-i : tie.Need-add-i Inv-loop μ-loop
-add-i c = omega arith
+add-i c = omega (arith, c .before .before .before .before .before .loop .inv .same, c .before .before .before .before .loop-test .taken, c .before .before .before .before .before .before .before .before .pre .1)
 
 loop-less : tie.Need-loop-less Inv-loop μ-loop
-loop-less c = omega arith
+loop-less c = omega (arith, c .before .before .before .before .before .loop .inv .same, c .before .before .before .before .loop-test .taken)
 
 loop-again : tie.Need-loop-again Inv-loop μ-loop
-loop-again c =
-    let s = c .before .before .before .before .before .before .before .before .before .before .before .before .before .before .before .before .before in
-    let p = c .before .before .before .before .before .before .place in
-    entered-more _ _ _ _ _ _ (s .pre .0 .0) (c .before .before .before .before .before .before .before .before .before .before .before .loop .inv) (c .before .before .before .before .before .before .before .before .before .before .loop-test .taken) _ _ _ (p .ensures .0) (p .ensures .1) (search needs) (search needs)
+loop-again c = let m = c .before .before .before .before .before .loop .inv in
+    let l = c .before .before .before .before .loop-test .taken in
+    rw (c .next-position .ensures, c .before .wide .ensures) (placing-more m l (λ j k. c .before .before .before .before .before .before .before .before .pre .2 j (omega (arith, m .same))))
 
 same-length : tie.Need-same-length Inv-loop μ-loop
-same-length c = c .before .loop .inv .written .same
-
-same-length-2 : tie.Need-same-length-2 Inv-loop μ-loop
-same-length-2 c = c .before .loop .inv .heads-same
-
-same-length-3 : tie.Need-same-length-3 Inv-loop μ-loop
-same-length-3 c = c .before .loop .inv .before-same
+same-length c = c .before .loop .inv .same
 
 returns : tie.Need-returns Inv-loop μ-loop
-returns c = written-all _ _ _ (c .before .before .before .before .before .before .before .pre .0 .0) (c .before .loop .inv .written) (c .loop-test .left)
+returns c = λ j l. c .before .loop .inv .placed j (omega (arith, c .before .loop .inv .same, c .loop-test .left))
 
 pub place-all-spec : {M : Type 1} → statement M
 place-all-spec =
@@ -54,11 +63,14 @@ place-all-spec =
     Inv-loop
     μ-loop
     loop-holds
-    place-requires
+    mul-wide
+    shared-slice-read-wide
+    wide-requires
+    next-position-requires
+    mul-held
+    slice-write-held
     add-i
     loop-less
     loop-again
     same-length
-    same-length-2
-    same-length-3
     returns)

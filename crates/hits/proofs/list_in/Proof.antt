@@ -57,8 +57,11 @@ part-write-hits-end-2 c = omega (arith, c .before .before .before .before .befor
 write-hits-requires : tie.Need-write-hits-requires
 write-hits-requires c κs = search needs
 
-abbrev written : tie.After-slice-known8 → tie.After-write-hits
-written c = c .before .before .before .before
+count-answer-requires : tie.Need-count-answer-requires
+count-answer-requires c κs = tt
+
+abbrev written : tie.After-count-answer → tie.After-write-hits
+written c = c .before .before .before .before .before
 
 same-length-3 : tie.Need-same-length-3
 same-length-3 c = written c .write-hits .kept .1 .1 .1 .0
@@ -66,8 +69,8 @@ same-length-3 c = written c .write-hits .kept .1 .1 .1 .0
 same-length-4 : tie.Need-same-length-4
 same-length-4 c = written c .write-hits .kept .1 .1 .1 .1 .0
 
-abbrev entered : tie.After-slice-known8 → tie.After-enter-all
-entered c = c .before .before .before .before .before .before .before .before .before .before .before .before .before .before .before .before
+abbrev entered : tie.After-count-answer → tie.After-enter-all
+entered c = c .before .before .before .before .before .before .before .before .before .before .before .before .before .before .before .before .before
 
 same-length-5 : tie.Need-same-length-5
 same-length-5 c = entered c .enter-all .kept .1 .1 .1 .1 .1 .1 .1 .0
@@ -76,18 +79,18 @@ same-length-6 : tie.Need-same-length-6
 same-length-6 c = entered c .enter-all .kept .1 .1 .1 .1 .1 .1 .1 .1 .0
 
 returns-2 : tie.Need-returns-2
-returns-2 c = let s = c .before .before .before .before .before .before .before .before .before .before .before .before .before .before .before .before .before .before .before .before .before .before .before .before .before .before .before .before .before in
+returns-2 c = let s = c .before .before .before .before .before .before .before .before .before .before .before .before .before .before .before .before .before .before .before .before .before .before .before .before .before .before .before .before .before .before in
     let n = s .args .index .n in
     let marks = now (s .args .marks) in
-    let entered = c .before .before .before .before .before .before .before .before .before .before .before .before .before .before .before .before .enter-all in
-    let left = c .before .before .before .before .before .before .before .before .before .before .before .if1 .left in
+    let entered = c .before .before .before .before .before .before .before .before .before .before .before .before .before .before .before .before .before .enter-all in
+    let left = c .before .before .before .before .before .before .before .before .before .before .before .before .if1 .left in
     let sound = not-false (entered .result) left in
     all-sound (scores s) marks n (s .args .k) (now (s .args .slots)) (now (s .args .scores))
     (scores-fit (headerOf (s .args .index)) (now (s .args .codes)) (now (s .args .scales)) (now (s .args .codes2)) (now (s .args .scales2)) (queryOf (now (s .args .query))))
     (ready-few _ _ _ _ (s .pre .0)) (not-true _ (says-yes (entered .ensures .sound) left)) _ _
     (ap (take (n - 0)) (entered .ensures .scores-in sound) ∙ part-tab (scoreEntry (scores s) marks) n _)
     (ap (take (n - 0)) (entered .ensures .orders-in sound) ∙ part-tab (orderEntry (scores s) marks) n _)
-    _ _ _ (c .before .before .before .before .write-hits .ensures)
+    _ _ _ (c .before .before .before .before .before .write-hits .ensures) _ (c .count-answer .ensures)
 
 pub list-in-spec : {M : Type 1} → statement M
 list-in-spec =
@@ -104,6 +107,7 @@ list-in-spec =
     part-write-hits-start-2
     part-write-hits-end-2
     write-hits-requires
+    count-answer-requires
     same-length-3
     same-length-4
     same-length-5

@@ -3,6 +3,7 @@ use mathlib.Core.Path.{sym, ap, _∙_}
 use mathlib.Core.Option.{none, some}
 use borrow.Author.Needs.{needs}
 use Rattle.index.specs.Step.{keyAnswer}
+use Rattle.slot_keys.specs.Has.{keyAt}
 use Rattle.held.proofs.Value.{key-in, slot-past}
 use Rattle.keys.proofs.Questions.{misfits, fits, key-asked}
 use Rattle.keys.proofs.key_of.Statement.{statement}
@@ -27,6 +28,7 @@ key-word-requires : tie.Need-key-word-requires
 key-word-requires c κs = search needs
 
 returns-3 : tie.Need-returns-3
+unfolding keyAt
 returns-3 c =
     let f = c .before .before .before .before .before .fits2 in
     let e = fits _ _ (f .result) (f .ensures) (c .before .before .before .before .if1 .left) in
@@ -34,6 +36,7 @@ returns-3 c =
     key-asked _ _ e _ (some _) (key-in _ _ e _ (c .before .before .before .if2 .left) ∙ rw (on, c .key-word .ensures))
 
 returns-4 : tie.Need-returns-4
+unfolding keyAt
 returns-4 c =
     let f = c .before .before .before .before .fits2 in
     let e = fits _ _ (f .result) (f .ensures) (c .before .before .before .if1 .left) in

@@ -29,10 +29,10 @@ loop-less c = omega arith
 
 loop-again : tie.Need-loop-again Inv-loop μ-loop
 loop-again c =
-    let s = c .before .before .before .before .before .before .before in
-    let last = c .before .before .before .before .before .loop in
+    let s = c .before .before .before .before .before .before .before .before in
+    let last = c .before .before .before .before .before .before .loop in
     let e = c .before .before .set-live-mark .ensures in (
-      omega (arith, c .before .before .before .before .loop-test .taken),
+      omega (arith, c .before .before .before .before .before .loop-test .taken),
       rw e (length-set (last .alive) (last .i) 1 ∙ last .inv .1),
       e ∙ ap (λ (xs : List ℕ). set xs (last .i) 1) (last .inv .2) ∙ first-more (λ _. 1) (s .args .alive .now) (last .i),
     )
@@ -44,6 +44,16 @@ returns : tie.Need-returns Inv-loop μ-loop
 returns c =
     let v = c .before .loop .inv in
     let e : c .before .loop .i ≡ c .before .before .before .args .n = omega (arith, v .0, c .loop-test .left) in
+    rw e at (v .2)
+
+same-length-2 : tie.Need-same-length-2 Inv-loop μ-loop
+same-length-2 c = c .before .before .loop .inv .1
+
+returns-2 : tie.Need-returns-2 Inv-loop μ-loop
+returns-2 c =
+    let v = c .before .before .loop .inv in
+    let s = c .before .before .before .before in
+    let e : min (c .before .before .loop .i) (length (s .args .alive .now)) ≡ min (s .args .n) (length (s .args .alive .now)) = omega (arith, v .0, v .1, c .if1 .taken) in
     rw e at (v .2)
 
 pub mark-live-spec : {M : Type 1} → statement M
@@ -58,4 +68,6 @@ mark-live-spec =
     loop-less
     loop-again
     same-length
-    returns)
+    returns
+    same-length-2
+    returns-2)

@@ -1,5 +1,7 @@
+use native.Mathlib.Omega.{arith}
 use borrow.Author.Needs.{needs}
-use Rattle.numerals.proofs.Runs.{put-number}
+use lib.Dec.{lit<, lit≤}
+use Rattle.numerals.proofs.Numeral.{put-number}
 use Rattle.numerals.proofs.put_decimal.Statement.{statement}
 use Rattle.numerals.proofs.put_decimal.Tie as tie
 
@@ -21,7 +23,7 @@ same-length c = search needs
 returns : tie.Need-returns
 returns c =
     let called = c .before .before .before .before .before .decimal in
-    put-number _ _ _ _ _ _ _ _ _ (called .ensures .1 .0) (called .ensures .1 .1) (c .before .before .put-bytes .ensures)
+    put-number 10 (lit< tt) 1 20 _ _ _ _ _ _ _ (lit< tt) (lit≤ tt) (omega arith) (called .ensures .1 .0) (called .ensures .1 .1) (c .before .before .put-bytes .ensures)
 
 pub put-decimal-spec : {M : Type 1} → statement M
 put-decimal-spec =

@@ -2,6 +2,7 @@ use Prim.Native.Nat.{_-_}
 use native.Mathlib.Omega.{arith}
 use borrow.Author.Needs.{needs}
 use lib.Ieee.{binary32, toBits}
+use lib.Dec.{lit<, lit≤}
 use lib.ListN.{length}
 use Rattle.numerals.proofs.Runs.{Printed, printed-none, printed-more, printed-all, put-dash, same-long}
 use Rattle.numerals.proofs.put_vector.Statement.{statement}
@@ -59,7 +60,7 @@ loop-again c =
     let called = c .before .before .before .to-bits in
     let test = c .before .before .before .before .before .before .loop-test in
     let loop = c .before .before .before .before .before .before .before .loop in
-    printed-more 8 (toBits binary32) _ _ _ _ _ _ _ _ _ _ (test .taken) (called .ensures) (omega arith) (loop .inv) (c .before .before .put-hex .ensures)
+    printed-more 8 (toBits binary32) _ _ _ _ _ _ _ _ _ _ (lit< tt) (lit≤ tt) (test .taken) (called .ensures) (omega arith) (loop .inv) (c .before .before .put-hex .ensures)
 
 same-length-2 : tie.Need-same-length-2 Inv-loop μ-loop
 same-length-2 c = omega (arith, same-long 8 (toBits binary32) _ _ _ _ _ _ (c .before .loop .inv), c .before .before .before .before .put-bytes .kept)

@@ -1,8 +1,5 @@
 -- `place::put_mark` meets its contract.
-use mathlib.Core.Path.{refl, ap}
-use Prim.Native.Nat.{ℕ}
-use lib.ListN.{set}
-use denote.Ref.{now}
+use mathlib.Core.Path.{refl}
 use borrow.Author.Needs.{needs}
 use Rattle.place.proofs.put_mark.Statement.{statement}
 use Rattle.place.proofs.put_mark.Tie as tie
@@ -16,8 +13,8 @@ slice-write-keys c = search needs
 slice-write-keyed : tie.Need-slice-write-keyed
 slice-write-keyed c = search needs
 
-held-if-keyed-requires : tie.Need-held-if-keyed-requires
-held-if-keyed-requires c κs = tt
+cast-held : tie.Need-cast-held
+cast-held c = search needs
 
 mul-held : tie.Need-mul-held
 mul-held c = search needs
@@ -41,9 +38,7 @@ same-length-4 : tie.Need-same-length-4
 same-length-4 c = c .before .before .set-live-mark .kept .0
 
 returns : tie.Need-returns
-returns c =
-    let s = c .before .before .before .before .before .before .before .before .before in
-    (refl, (refl, (ap (λ (p : ℕ). set (now (s .args .held)) (s .args .slot) p) (c .before .before .before .before .held-if-keyed .ensures), c .before .before .set-live-mark .ensures)))
+returns c = (refl, (refl, (refl, c .before .before .set-live-mark .ensures)))
 
 pub put-mark-spec : {M : Type 1} → statement M
 put-mark-spec =
@@ -52,7 +47,7 @@ put-mark-spec =
     mul-keys
     slice-write-keys
     slice-write-keyed
-    held-if-keyed-requires
+    cast-held
     mul-held
     slice-write-held
     set-live-mark-requires

@@ -6,12 +6,11 @@ use native.Mathlib.Omega.{arith}
 use borrow.Author.Needs.{needs}
 use lib.ListN.{take}
 use lib.Ieee.{Float}
-use Rattle.lloyd.specs.Tables.{levelsOf, centroidsOf, boundariesOf}
+use Rattle.lloyd.specs.Tables.{levelsOf, boundariesOf}
 use Rattle.lloyd.specs.Quantizer.{quantized}
 use Rattle.lloyd.specs.Sound.{Rises}
 use Rattle.lloyd.proofs.Places.{lent-fits, lent}
-use Rattle.lloyd.proofs.Sound.{sound-at}
-use Rattle.lloyd.proofs.Widths.{levels-le, boundaries-length, boundaries-count, tables-sound}
+use Rattle.lloyd.proofs.Widths.{levels-le, boundaries-length, boundaries-count, tables-rule}
 use Rattle.lloyd.proofs.Quantized.{quantized-le}
 use Rattle.quantizer.proofs.quantize.Statement.{statement}
 use Rattle.quantizer.proofs.quantize.Tie as tie
@@ -54,7 +53,7 @@ halving-requires c κs =
     let n = c .before .before .before .before .levels in
     let bits = c .before .before .before .before .before .args .bits in
     let some : 0 < levelsOf bits = omega (arith, n .ensures, c .before .before .before .if1 .left) in
-    subst⁻¹ Rises (table (c .before .before)) (sound-at (boundariesOf bits) (centroidsOf bits) (tables-sound bits some) .boundaries-rise)
+    subst⁻¹ Rises (table (c .before .before)) (tables-rule bits some .boundaries-rise)
 
 returns-2 : tie.Need-returns-2
 returns-2 c =

@@ -1,29 +1,19 @@
--- `scan::lanes_five` meets its contract.
+-- `scan::lanes_five` meets its contract: the laws of two blocks in one loop, at 5 bits.
 use native.Mathlib.Omega.{arith}
-use mathlib.Core.Path.{_≡_, refl, ap, _∙_}
-use Prim.Native.Nat.{ℕ, _-_, _*_, _/_, _%_, _≤_}
-use lib.ListN.{length, take, drop}
-use mathlib.Core.List.{List}
-use denote.Ref.{now}
-use Rattle.digits.specs.Digits.{number}
-use Rattle.score.proofs.Lanes.{InLanes}
-use Rattle.scan.specs.Pairs.{pairProducts}
-use Rattle.scan.proofs.Kernels.{lanes-none, wide-again, wide-end}
+use Prim.Native.Nat.{_-_}
+use lib.ListN.{length}
+use Rattle.scan.proofs.Kernels.{Summing, summing-none, summing-more, summing-all}
 use Rattle.scan.proofs.lanes_five.Statement.{statement}
 use Rattle.scan.proofs.lanes_five.Tie as tie
 
 abbrev Inv-loop : tie.InvT-loop
-Inv-loop one other query pairs acc₀ acc2₀ i₀ at₀ acc acc2 i at = (i ≤ length query) × (i % 8 ≡ 0) × (at ≡ 5 * (i / 8)) × InLanes 4 (pairProducts 5 pairs query one) acc i × InLanes 4 (pairProducts 5 pairs query other) acc2 i
+Inv-loop one other query pairs acc₀ acc2₀ i₀ at₀ acc acc2 i at = Summing 5 pairs query one other acc acc2 i at
 
 abbrev μ-loop : tie.MeasureT-loop
 μ-loop one other query pairs acc₀ acc2₀ i₀ at₀ acc acc2 i at = length query - i
 
--- the word at the place of group i / 8
-at-group : (block : List ℕ) (at i word : ℕ) → at ≡ 5 * (i / 8) → word ≡ number 256 (take 5 (drop at block)) → word ≡ number 256 (take 5 (drop (5 * (i / 8)) block))
-at-group block at i word e f = f ∙ ap (λ (z : ℕ). number 256 (take 5 (drop z block))) e
-
 loop-holds : tie.Need-loop-holds Inv-loop μ-loop
-loop-holds c = (omega arith, refl, refl, lanes-none _ .1, lanes-none _ .1)
+loop-holds c = summing-none 5 _ _ _ _
 
 word-five-requires : tie.Need-word-five-requires Inv-loop μ-loop
 word-five-requires c κs = omega arith
@@ -47,16 +37,15 @@ loop-less : tie.Need-loop-less Inv-loop μ-loop
 loop-less c = omega arith
 
 loop-again : tie.Need-loop-again Inv-loop μ-loop
-loop-again c = let inv = c .before .before .before .before .before .loop .inv in (
-  omega arith,
-  omega arith,
-  omega arith,
-  wide-again 5 _ _ _ (λ k. c .before .before .before .before .before .before .before .before .before .shared-slice-known .given k .fits) _ _ _ _ (inv .3) (inv .1) (omega arith) (at-group _ _ _ _ (inv .2) (c .before .before .before .word-five .ensures .0)) (c .before .before .wide-step .ensures),
-  wide-again 5 _ _ _ (λ k. c .before .before .before .before .before .before .before .before .shared-slice-known2 .given k .fits) _ _ _ _ (inv .4) (inv .1) (omega arith) (at-group _ _ _ _ (inv .2) (c .before .word-five2 .ensures .0)) (c .wide-step2 .ensures),
-)
+loop-again c =
+    summing-more 5 _ _ _ _ _ _ _ _ _ _ _ _ (c .before .before .before .before .before .loop .inv) (omega arith)
+    (λ k. c .before .before .before .before .before .before .before .before .before .shared-slice-known .given k .fits) (λ k. c .before .before .before .before .before .before .before .before .shared-slice-known2 .given k .fits)
+    (c .before .before .before .word-five .ensures .0) (c .before .word-five2 .ensures .0) (c .before .before .wide-step .ensures) (c .wide-step2 .ensures)
 
 returns : tie.Need-returns Inv-loop μ-loop
-returns c = (wide-end 5 _ _ _ (λ k. c .before .before .before .before .before .shared-slice-known .given k .fits) _ _ (c .before .loop .inv .3) (c .loop-test .left), wide-end 5 _ _ _ (λ k. c .before .before .before .before .shared-slice-known2 .given k .fits) _ _ (c .before .loop .inv .4) (c .loop-test .left))
+returns c =
+    summing-all 5 _ _ _ _ (λ k. c .before .before .before .before .before .shared-slice-known .given k .fits) (λ k. c .before .before .before .before .shared-slice-known2 .given k .fits)
+    _ _ _ _ (c .before .loop .inv) (c .loop-test .left)
 
 pub lanes-five-spec : {M : Type 1} → statement M
 lanes-five-spec =

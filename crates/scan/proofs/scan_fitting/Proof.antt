@@ -1,7 +1,6 @@
 -- `scan::scan_fitting` meets its contract.
 use borrow.Author.Needs.{needs}
 use native.Mathlib.Omega.{arith}
-use lib.ListN.{length}
 use denote.Ref.{now}
 use Rattle.scan.specs.Scan.{stageOf, scoreNow}
 use Rattle.scan.specs.Groups.{scoreBy}

@@ -1,6 +1,7 @@
 -- `search_exports::vecq_search_cascade` meets its contract.
 use mathlib.Core.Path.{refl}
-use Rattle.words.proofs.Exports.{list-misfit, list-done}
+use Rattle.index.specs.Answers.{found}
+use Rattle.words.proofs.Exports.{no-record, list-done}
 use Rattle.search_exports.proofs.vecq_search_cascade.Statement.{statement}
 use Rattle.search_exports.proofs.vecq_search_cascade.Tie as tie
 
@@ -17,7 +18,7 @@ same-length : tie.Need-same-length
 same-length c = refl
 
 returns : tie.Need-returns
-returns c = list-misfit _ _ _ (c .before .before .record-beside .ensures) _ _ _ _ (c .enum-told .given .1)
+returns c = (no-record _ _ _ (c .before .before .record-beside .ensures) _ _ (c .enum-told .given .1), (refl, (refl, refl)))
 
 search-cascade-requires : tie.Need-search-cascade-requires
 search-cascade-requires c κs = tt
@@ -38,7 +39,7 @@ returns-2 : tie.Need-returns-2
 returns-2 c =
     let at = c .before .before .before .before .before .before .before .before in
     let read = at .before .before .before .before in
-    list-done _ _ _ (read .before .before .record-beside .ensures) _ (read .index .given .1) _ _ _ (at .search-cascade .result) _ _ _ _ (at .search-cascade .ensures) _ _ (c .before .before .put-found .ensures)
+    list-done _ _ _ (read .before .before .record-beside .ensures) _ (read .index .given .1) _ _ _ found (λ n ns ss. refl) (at .search-cascade .result) _ _ _ _ (at .search-cascade .ensures) _ _ (c .before .before .put-found .ensures)
 
 pub vecq-search-cascade-spec : {M : Type 1} → statement M
 vecq-search-cascade-spec =

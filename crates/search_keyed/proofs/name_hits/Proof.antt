@@ -4,8 +4,8 @@ use Prim.Native.Nat.{min}
 use lib.ListN.{length}
 use denote.Ref.{now}
 use native.Mathlib.Omega.{arith}
-use Rattle.search_keyed.proofs.Keys.{passed-on, named-hits}
-use Rattle.search_keyed.specs.Named.{hitCount}
+use Rattle.search_keyed.proofs.Keys.{none-named, named-hits}
+use Rattle.search_keyed.specs.Named.{listedCount}
 use borrow.Author.Needs.{needs}
 use Rattle.search_keyed.proofs.name_hits.Statement.{statement}
 use Rattle.search_keyed.proofs.name_hits.Tie as tie
@@ -13,13 +13,10 @@ use Rattle.search_keyed.proofs.name_hits.Tie as tie
 enum-known-listed : tie.Need-enum-known-listed
 enum-known-listed c = search needs
 
-enum-told : tie.Need-enum-told
-enum-told c = search needs
-
 returns : tie.Need-returns
 returns c =
-    let s = c .before .before .before .before .before .before .before .before in
-    passed-on (now (s .args .keys)) (now (s .args .keyed)) (now (s .args .slots)) (now (s .args .found)) (min (length (now (s .args .names))) (length (now (s .args .scores)))) (s .args .listed) _ (c .enum-told .given .1) _ _
+    let s = c .before .before .before .before .before .before .before in
+    none-named (now (s .args .keys)) (now (s .args .keyed)) (now (s .args .slots)) (now (s .args .found)) (min (length (now (s .args .names))) (length (now (s .args .scores)))) (s .args .listed) (c .match .keys2) _ _
 
 sub-list-keys : tie.Need-sub-list-keys
 sub-list-keys c = search needs
@@ -28,7 +25,7 @@ part-list-keys-start : tie.Need-part-list-keys-start
 part-list-keys-start c = search needs
 
 part-list-keys-end : tie.Need-part-list-keys-end
-part-list-keys-end c = omega (arith, c .before .before .before .before .before .before .before .before .before .pre .0, ap hitCount (c .before .listed .given .1))
+part-list-keys-end c = omega (arith, c .before .before .before .before .before .before .before .before .before .pre .0, ap listedCount (c .before .listed .given .1))
 
 sub-list-keys-2 : tie.Need-sub-list-keys-2
 sub-list-keys-2 c = search needs
@@ -37,7 +34,7 @@ part-list-keys-start-2 : tie.Need-part-list-keys-start-2
 part-list-keys-start-2 c = search needs
 
 part-list-keys-end-2 : tie.Need-part-list-keys-end-2
-part-list-keys-end-2 c = omega (arith, c .before .before .before .before .before .before .before .before .before .before .pre .1, ap hitCount (c .before .before .listed .given .1))
+part-list-keys-end-2 c = omega (arith, c .before .before .before .before .before .before .before .before .before .before .pre .1, ap listedCount (c .before .before .listed .given .1))
 
 list-keys-requires : tie.Need-list-keys-requires
 list-keys-requires c κs = tt
@@ -59,7 +56,6 @@ name-hits-spec =
     tie.close
     (tie.spec
     enum-known-listed
-    enum-told
     returns
     sub-list-keys
     part-list-keys-start

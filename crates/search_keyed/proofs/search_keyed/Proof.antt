@@ -68,7 +68,7 @@ returns-2 c =
     omega (arith, at .before .before .before .before .before .before .places-needed .ensures, at .before .before .before .before .before .if2 .taken, numbers .ok, floats .ok) in
     let list = at .list .ensures in
     let named = c .before .before .before .before .name-hits .ensures in
-    keys-named _ _ _ _ _ accepted _ wide _ _ _ _ (list .1 .0) (list .1 .1) _ _ (list .0) (named .0) _ _ _ _ (named .1 .0) (named .1 .1)
+    keys-named _ _ _ _ _ accepted _ wide _ (list .0) _ _ _ _ (list .1 .0) (list .1 .1) _ _ _ _ _ (named .0) (named .1 .0) (named .1 .1)
 
 slot-numbers-requires : tie.Need-slot-numbers-requires
 slot-numbers-requires c κs = tt
@@ -121,7 +121,7 @@ returns-3 c =
     omega (arith, numbers .ok, floats .ok) in
     let list = at .list2 .ensures in
     let named = c .before .before .before .before .name-hits2 .ensures in
-    keys-named _ _ _ _ _ accepted _ wide _ _ _ _ (list .1 .0) (list .1 .1) _ _ (list .0) (named .0) _ _ _ _ (named .1 .0) (named .1 .1)
+    keys-named _ _ _ _ _ accepted _ wide _ (list .0) _ _ _ _ (list .1 .0) (list .1 .1) _ _ _ _ _ (named .0) (named .1 .0) (named .1 .1)
 
 pub search-keyed-spec : {M : Type 1} → statement M
 search-keyed-spec =

@@ -1,6 +1,6 @@
 -- `write_exports::vecq_to_bytes` meets its contract.
 use mathlib.Core.Path.{refl}
-use Rattle.words.proofs.Exports.{write-misfit, write-done}
+use Rattle.words.proofs.Exports.{no-record, write-done}
 use Rattle.write_exports.proofs.vecq_to_bytes.Statement.{statement}
 use Rattle.write_exports.proofs.vecq_to_bytes.Tie as tie
 
@@ -17,7 +17,7 @@ same-length : tie.Need-same-length
 same-length c = refl
 
 returns : tie.Need-returns
-returns c = write-misfit _ _ _ (c .before .before .record-beside .ensures) _ _ (c .enum-told .given .1)
+returns c = (no-record _ _ _ (c .before .before .record-beside .ensures) _ _ (c .enum-told .given .1), (refl, refl))
 
 to-bytes-requires : tie.Need-to-bytes-requires
 to-bytes-requires c κs = tt
@@ -35,7 +35,7 @@ returns-2 : tie.Need-returns-2
 returns-2 c =
     let at = c .before .before .before .before .before .before in
     let read = at .before .before .before in
-    write-done _ _ _ (read .before .before .record-beside .ensures) _ (read .index .given .1) _ _ (at .to-bytes .result) _ _ (at .to-bytes .ensures) _ _ (c .before .before .put-written .ensures)
+    write-done _ _ _ (read .before .before .record-beside .ensures) _ (read .index .given .1) _ _ _ (at .to-bytes .result) _ _ (at .to-bytes .ensures) _ _ (c .before .before .put-written .ensures)
 
 pub vecq-to-bytes-spec : {M : Type 1} → statement M
 vecq-to-bytes-spec =

@@ -1,13 +1,12 @@
 -- `nearest::distances::slot_distance` meets its contract.
-use mathlib.Core.Path.{_∙_}
-use borrow.Author.Tests.{lt-ltb, le-ltb}
+use mathlib.Core.Path.{sym, _∙_}
 use Rattle.nearest.specs.Lanes.{slotApart}
 use borrow.Author.Needs.{needs}
 use Rattle.nearest.proofs.distances.slot_distance.Statement.{statement}
 use Rattle.nearest.proofs.distances.slot_distance.Tie as tie
 
-live-mark-requires : tie.Need-live-mark-requires
-live-mark-requires c κs = search needs
+is-live-requires : tie.Need-is-live-requires
+is-live-requires c κs = search needs
 
 slot-codes-requires : tie.Need-slot-codes-requires
 slot-codes-requires c κs = search needs
@@ -18,13 +17,13 @@ lanes-apart-requires c κs = search needs
 returns : tie.Need-returns
 unfolding slotApart
 returns c =
-    c .lanes-apart .ensures ∙ rw (← c .before .before .before .live-mark .ensures, lt-ltb 0 _ (c .before .before .if1 .taken), c .before .slot-codes .ensures)
+    c .lanes-apart .ensures ∙ rw (sym (c .before .before .before .is-live .ensures) ∙ c .before .before .if1 .taken, c .before .slot-codes .ensures)
 
 returns-2 : tie.Need-returns-2
 unfolding slotApart
-returns-2 c = rw (← c .before .live-mark .ensures, le-ltb 0 _ (c .if1 .left))
+returns-2 c = rw (sym (c .before .is-live .ensures) ∙ c .if1 .left)
 
 pub slot-distance-spec : {M : Type 1} → statement M
 slot-distance-spec =
     tie.close
-    (tie.spec live-mark-requires slot-codes-requires lanes-apart-requires returns returns-2)
+    (tie.spec is-live-requires slot-codes-requires lanes-apart-requires returns returns-2)

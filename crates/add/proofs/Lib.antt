@@ -1,5 +1,0 @@
--- Laws of adding.
-mod Blocks
-mod Append
-mod Overwrite
-mod Keyed

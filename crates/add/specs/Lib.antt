@@ -1,2 +1,0 @@
--- Adding.
-pub mod Scanned

@@ -1,2 +1,0 @@
--- Laws of chains.
-pub mod Chains

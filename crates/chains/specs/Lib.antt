@@ -1,2 +1,0 @@
--- Chains of places by their keys.
-pub mod Chains

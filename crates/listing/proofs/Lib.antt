@@ -1,2 +1,0 @@
--- That the part of a long file which the program reads is enough.
-pub mod Cut

@@ -1,2 +1,0 @@
--- What the listing prints.
-pub mod Listing

@@ -1,0 +1,4 @@
+-- Laws of previous places.
+pub mod Previous
+mod Sorting
+mod Loops

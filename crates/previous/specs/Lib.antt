@@ -1,0 +1,3 @@
+-- The previous place with the same key.
+pub mod Previous
+pub mod Sorting

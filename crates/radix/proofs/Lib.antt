@@ -1,0 +1,3 @@
+-- Laws of sorting by one digit, and by one digit after another.
+pub mod Passes
+mod Radix

@@ -1,0 +1,2 @@
+-- Digits, and entries by falling digit.
+pub mod Digits
