@@ -7,7 +7,7 @@ use native.Mathlib.Nat.{suc-mul}
 use native.Mathlib.Omega.{arith}
 use lib.ListN.{length, length-append}
 use Rattle.lists.specs.Lists.{tab, joined}
-use Rattle.numerals.specs.Numerals.{decimal}
+use Rattle.numerals.specs.Numerals.{decimalText}
 use Rattle.numerals.proofs.Numeral.{numeral-length}
 use Rattle.encode.specs.declared.Header.{Header}
 use Rattle.index.specs.Read.{versionIn, countIn, headerIn, keyFrom, entriesIn, readRefusal}
@@ -21,7 +21,7 @@ use Rattle.listing_text.proofs.Reading.{slots-room}
 
 -- ---- lines
 
-few-digits : (n : ℕ) → length (decimal n) ≤ 20
+few-digits : (n : ℕ) → length (decimalText n) ≤ 20
 few-digits n = numeral-length 10 1 20 n
 
 head-length : (v : ℕ) (h : Header) (n : ℕ) → length (headLine v h n) ≤ 105

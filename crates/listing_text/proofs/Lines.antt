@@ -11,7 +11,7 @@ use lib.Seq.{length-sets}
 use Rattle.lists.specs.Lists.{tab, joined}
 use Rattle.print.specs.Printed.{Prints}
 use Rattle.print.proofs.Places.{put-then}
-use Rattle.numerals.specs.Numerals.{decimal}
+use Rattle.numerals.specs.Numerals.{decimalText}
 use Rattle.slot_keys.specs.Has.{keyAt}
 use Rattle.encode.specs.declared.Header.{Header}
 use Rattle.index.proofs.Blocks.{joined-append}
@@ -24,7 +24,7 @@ pub put-head : (v v′ : ℕ) (h h′ : Header) (n n′ : ℕ) (d : List ℕ) (a
 put-head v v′ h h′ n n′ d at d′ next e f g p = rw (e, f, g) at p
 
 module _ (keys : List ℕ) (keyed : List Bool) (slot : ℕ) (d : List ℕ) (at : ℕ) (d′ : List ℕ) (next : ℕ) where
-  pub put-keyed : (k : ℕ) → getD keyed slot false ≡ true → k ≡ getD keys slot 0 → Prints d at (decimal k) d′ next → Prints d at (keyText (keyAt keys keyed slot)) d′ next
+  pub put-keyed : (k : ℕ) → getD keyed slot false ≡ true → k ≡ getD keys slot 0 → Prints d at (decimalText k) d′ next → Prints d at (keyText (keyAt keys keyed slot)) d′ next
   unfolding keyAt
   put-keyed k on e p = rw (on, ← e) p
 

@@ -7,7 +7,7 @@ use lib.ListN.{length, drop, replicate}
 use lib.Dec.{eqb, ltb}
 use Rattle.lists.specs.Lists.{tab, joined}
 use Rattle.half.specs.Half.{narrowed}
-use Rattle.numerals.specs.Numerals.{decimal}
+use Rattle.numerals.specs.Numerals.{decimalText}
 use Rattle.encode.specs.declared.Header.{Header}
 use Rattle.index.specs.declared.Made.{Made}
 use Rattle.index.specs.declared.Made.the-variants as Made
@@ -35,16 +35,16 @@ newline = 10 ∷ []
 
 -- a blank, and the number in decimal
 abbrev pub nextNumber : ℕ → List ℕ
-nextNumber n = 32 ∷ decimal n
+nextNumber n = 32 ∷ decimalText n
 
 -- "`261 1 1 5 1` (version, dim, working_dim, width, live)"
 unfoldable pub headLine : (version : ℕ) → Header → (live : ℕ) → List ℕ
-headLine v h n = decimal v ++ nextNumber (h .dim) ++ nextNumber (h .«working_dim») ++ nextNumber (h .bits) ++ nextNumber n ++ newline
+headLine v h n = decimalText v ++ nextNumber (h .dim) ++ nextNumber (h .«working_dim») ++ nextNumber (h .bits) ++ nextNumber n ++ newline
 
 -- "key in decimal or -"
 abbrev pub keyText : Option ℕ → List ℕ
 keyText none = 45 ∷ []
-keyText (some k) = decimal k
+keyText (some k) = decimalText k
 
 -- the ASCII code of a digit below 16: `0` to `9`, then `A` to `F`
 abbrev pub upperDigit : ℕ → ℕ
@@ -55,11 +55,11 @@ halfText h = upperDigit (h / 4096 % 16) ∷ upperDigit (h / 256 % 16) ∷ upperD
 
 -- "`0 - 3B9A` (slot, key in decimal or -, the first scale as a half ..)"
 unfoldable pub slotLine : (slot : ℕ) → (key : Option ℕ) → (half : ℕ) → List ℕ
-slotLine i k h = decimal i ++ (32 ∷ keyText k) ++ (32 ∷ halfText h ++ newline)
+slotLine i k h = decimalText i ++ (32 ∷ keyText k) ++ (32 ∷ halfText h ++ newline)
 
 -- "A refused file prints its number alone."
 abbrev pub refusalLine : (number : ℕ) → List ℕ
-refusalLine n = decimal n ++ newline
+refusalLine n = decimalText n ++ newline
 
 -- ---- the text
 

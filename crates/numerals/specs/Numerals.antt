@@ -12,11 +12,11 @@ numeral b least zero n = []
 numeral b least (suc m) n = cond (ltb least 2 && ltb n b) (glyph n ∷ []) (numeral b (least - 1) m (n / b) ++ (glyph (n % b) ∷ []))
 
 -- of a number of 64 bits
-abbrev pub decimal : ℕ → List ℕ
-decimal n = numeral 10 1 20 n
+abbrev pub decimalText : ℕ → List ℕ
+decimalText n = numeral 10 1 20 n
 
-abbrev pub hexadecimal : (least n : ℕ) → List ℕ
-hexadecimal least n = numeral 16 least 16 n
+abbrev pub hexadecimalText : (least n : ℕ) → List ℕ
+hexadecimalText least n = numeral 16 least 16 n
 
 -- w hexadecimal digits for each element, run together; `number` is the number that an element is printed as
 abbrev pub digitsOfEach : {A : Type 0} → ℕ → (A → ℕ) → List A → List ℕ
@@ -29,15 +29,15 @@ runText w number [] = 45 ∷ []
 runText w number (x ∷ xs) = digitsOfEach w number (x ∷ xs)
 
 -- worked by hand: 0 is `0`, 107 is `107`, 27 in four digits is `001b`; the bytes 10 and 255 are `0aff`
-none : decimal 0 ≡ 48 ∷ []
+none : decimalText 0 ≡ 48 ∷ []
 unfolding numeral
 none = refl
 
-within : decimal 107 ≡ 49 ∷ 48 ∷ 55 ∷ []
+within : decimalText 107 ≡ 49 ∷ 48 ∷ 55 ∷ []
 unfolding numeral
 within = refl
 
-in-four : hexadecimal 4 27 ≡ 48 ∷ 48 ∷ 49 ∷ 98 ∷ []
+in-four : hexadecimalText 4 27 ≡ 48 ∷ 48 ∷ 49 ∷ 98 ∷ []
 unfolding numeral
 in-four = refl
 

@@ -4,11 +4,11 @@ ghost use mathlib.Core.Path.{_≡_};
 ghost use Prim.Native.Nat.{_<_, min, max};
 ghost use lib.Ieee.{binary32, toBits};
 ghost use Rattle.print.specs.Printed.{Prints};
-ghost use Rattle.numerals.specs.Numerals.{decimal, hexadecimal, runText};
+ghost use Rattle.numerals.specs.Numerals.{decimalText, hexadecimalText, runText};
 
 // The hexadecimal digits of n, with zeros in front up to width digits, at most 16.
 pub fn put_hex(out: &mut [u8], at: usize, n: u64, width: usize) -> usize
-    ensures { λ r. ⌜ Prints (now (out .entry)) at (hexadecimal (min (max width 1) 16) n) (now (out .exit)) r ⌝ }
+    ensures { λ r. ⌜ Prints (now (out .entry)) at (hexadecimalText (min (max width 1) 16) n) (now (out .exit)) r ⌝ }
 {
     let mut digits = [0u8; 16];
     let k = io::hex(n, width, &mut digits);
@@ -17,7 +17,7 @@ pub fn put_hex(out: &mut [u8], at: usize, n: u64, width: usize) -> usize
 
 // The decimal digits of n.
 pub fn put_decimal(out: &mut [u8], at: usize, n: u64) -> usize
-    ensures { λ r. ⌜ Prints (now (out .entry)) at (decimal n) (now (out .exit)) r ⌝ }
+    ensures { λ r. ⌜ Prints (now (out .entry)) at (decimalText n) (now (out .exit)) r ⌝ }
 {
     let mut digits = [0u8; 20];
     let k = io::decimal(n, &mut digits);

@@ -32,7 +32,7 @@ use Rattle.histories.proofs.Tracks.{none-seen, compacted-slots}
 use Rattle.histories.proofs.Runs.{Good, advance-good}
 use Rattle.histories.proofs.Houses.{house-good, house-told, house-fits, house-value, same-calls}
 use Rattle.round_trip.specs.Back.{halvedIf, halvedCode, tidiedMark, tidied, saved, Opens}
-use Rattle.round_trip.specs.Stored.{scaleIf, Scales, Number, OfHalf, SavedAsItIs, NumberedFile, valueOf, WrittenAs, Reopens, StoredUnchanged, adds, StoredAtAnyTime, SameAfterReading}
+use Rattle.round_trip.specs.Stored.{scaleIf, Scales, Number, OfHalf, SavedAsItIs, NumberedFile, runValue, WrittenAs, Reopens, StoredUnchanged, isAdd, StoredAtAnyTime, SameAfterReading}
 use Rattle.round_trip.proofs.Halves.{back-to-itself}
 use Rattle.round_trip.proofs.Calls.{out-saved, written-is-read}
 
@@ -84,28 +84,28 @@ module _ (r : Run) (g : Good r) (h : Halves (r .told .living)) where
   slots-are : compacted (slotsOf r) ≡ map (λ c. c .slot) cells
   slots-are = compacted-slots (g .tracks)
 
-  saved-compacted : saved (valueOf r) ≡ withSlots (valueOf r) false (compacted (slotsOf r))
+  saved-compacted : saved (runValue r) ≡ withSlots (runValue r) false (compacted (slotsOf r))
   unfolding saved
   saved-compacted =
-      ap (withSlots (valueOf r) false)
+      ap (withSlots (runValue r) false)
       (ap (map tidied) slots-are ∙
       all-own (map (λ c. c .slot) cells) (each-map (λ x. tidiedMark (x .mark) ≡ x .mark) (λ c. c .slot) cells (cells-own none-seen (r .told .living)))
       (each-map (λ x. Scales OfHalf (x .code)) (λ c. c .slot) cells (cells-halves none-seen (r .told .living) h)) ∙
       sym slots-are)
 
   -- what a compaction leaves where the cascade is off
-  compacted-value : r .index .cascade ≡ false → valueOf (advance r compact) ≡ withSlots (valueOf r) false (compacted (slotsOf r))
+  compacted-value : r .index .cascade ≡ false → runValue (advance r compact) ≡ withSlots (runValue r) false (compacted (slotsOf r))
   unfolding advance called step stateOf
   compacted-value e =
       call-state (r .index) (r .arrays) Step.compact (g .fits) ∙
-      ap (λ (b : Bool). withSlots (valueOf r) (b && not (any (λ x. not (live x)) (slotsOf r))) (compacted (slotsOf r))) e
+      ap (λ (b : Bool). withSlots (runValue r) (b && not (any (λ x. not (live x)) (slotsOf r))) (compacted (slotsOf r))) e
 
   module _ (e : r .index .cascade ≡ false) (out : List ℕ) (w : WrittenAs r out) where
-    reopens : (b : Arrays) → r .index .live ≤ capacity (headerOf (r .index)) b → Opens b out (valueOf (advance r compact))
+    reopens : (b : Arrays) → r .index .live ≤ capacity (headerOf (r .index)) b → Opens b out (runValue (advance r compact))
     reopens b space =
         subst (Opens b out) (saved-compacted ∙ sym (compacted-value e)) (written-is-read (r .index) (r .arrays) (w .typed) (w .places) out (w .answer) b space)
 
-    same-value : stateIn out ≡ valueOf (advance r compact)
+    same-value : stateIn out ≡ runValue (advance r compact)
     same-value = out-saved (r .index) (r .arrays) (w .typed) (w .places) out (w .answer) ∙ saved-compacted ∙ sym (compacted-value e)
 
 -- ---- no call of a history turns the cascade on
@@ -140,7 +140,7 @@ off-step number room s (write places) e = e
 
 -- ---- what is told by calls that add nothing has the same codes
 
-says-halves : (op : HistoryOp) (t : Told) → adds op ≡ false → Halves (t .living) → Halves (says op t .living)
+says-halves : (op : HistoryOp) (t : Told) → isAdd op ≡ false → Halves (t .living) → Halves (says op t .living)
 unfolding says
 says-halves (add v) t e h = absurd (subst T e tt)
 says-halves (addKeyed j v) t e h = absurd (subst T e tt)
@@ -162,18 +162,18 @@ record Stays (r : Run) : Type 0 where
   off : r .index .cascade ≡ false
   halves : Halves (r .told .living)
 
-stays-on : (r : Run) → Stays r → (op : HistoryOp) → adds op ≡ false → Stays (advance r op)
+stays-on : (r : Run) → Stays r → (op : HistoryOp) → isAdd op ≡ false → Stays (advance r op)
 unfolding advance called stateOf
 stays-on r s op e =
     record {
       good = advance-good r (s .good) op;
       off =
           ap (λ (v : State). v .cascade) (call-state (r .index) (r .arrays) (opAt (numberNow (r .arrivals)) op) (s .good .fits)) ∙
-          off-step (numberNow (r .arrivals)) (capacity (headerOf (r .index)) (r .arrays)) (valueOf r) op (s .off);
+          off-step (numberNow (r .arrivals)) (capacity (headerOf (r .index)) (r .arrays)) (runValue r) op (s .off);
       halves = either (λ (t : Told). Halves (t .living)) (accepted (called r op .answer)) (says-halves op (r .told) e (s .halves)) (s .halves);
     }
 
-stays-after : (r : Run) → Stays r → (h : History) → Each (λ op. adds op ≡ false) h → Stays (after r h)
+stays-after : (r : Run) → Stays r → (h : History) → Each (λ op. isAdd op ≡ false) h → Stays (after r h)
 stays-after r s [] e = s
 stays-after r s (op ∷ h) e = stays-after (advance r op) (stays-on r s op (e .0)) h (e .1)
 
@@ -212,7 +212,7 @@ module _ (file : List ℕ) (n : NumberedFile file) where
         }
 
     -- a compaction leaves it as it was read
-    house-compacted : valueOf (advance (opened p) compact) ≡ valueOf (opened p)
+    house-compacted : runValue (advance (opened p) compact) ≡ runValue (opened p)
     unfolding begin stateOf stateIn compacted
     house-compacted =
         let s = house-stays in

@@ -59,8 +59,8 @@ pub record NumberedFile (file : List ℕ) : Type 0 where
   pub halves : formIn file .scale ≡ 2
   pub numbers : Each (λ l. Scales Number (l .code)) (toldIn file .living)
 
-abbrev pub valueOf : Run → State
-valueOf r = stateOf (r .index) (r .arrays)
+abbrev pub runValue : Run → State
+runValue r = stateOf (r .index) (r .arrays)
 
 -- the run's index was written as these bytes
 pub record WrittenAs (r : Run) (out : List ℕ) : Type 0 where
@@ -74,35 +74,35 @@ Reopens r s = (out : List ℕ) → WrittenAs r out → (b : Arrays) → r .index
 
 -- the index as it was read
 abbrev pub StoredUnchanged : Type 0
-StoredUnchanged = (file : List ℕ) → NumberedFile file → (p : House file) → Reopens (opened p) (valueOf (opened p))
+StoredUnchanged = (file : List ℕ) → NumberedFile file → (p : House file) → Reopens (opened p) (runValue (opened p))
 
-abbrev pub adds : HistoryOp → Bool
-adds (add v) = true
-adds (addKeyed j v) = true
-adds (addMulti j v) = true
-adds (relabel j k) = false
-adds (remove j) = false
-adds compact = false
-adds (score a q) = false
-adds (search q k places) = false
-adds (searchKeyed q k places) = false
-adds (keyOf a) = false
-adds (contains j) = false
-adds (slotOf j i) = false
-adds fileLength = false
-adds (write places) = false
+abbrev pub isAdd : HistoryOp → Bool
+isAdd (add v) = true
+isAdd (addKeyed j v) = true
+isAdd (addMulti j v) = true
+isAdd (relabel j k) = false
+isAdd (remove j) = false
+isAdd compact = false
+isAdd (score a q) = false
+isAdd (search q k places) = false
+isAdd (searchKeyed q k places) = false
+isAdd (keyOf a) = false
+isAdd (contains j) = false
+isAdd (slotOf j i) = false
+isAdd fileLength = false
+isAdd (write places) = false
 
 -- after a history that adds nothing: what a compaction leaves at that moment
 abbrev pub StoredAtAnyTime : Type 0
 StoredAtAnyTime =
-    (file : List ℕ) → NumberedFile file → (p : House file) (h : History) → Each (λ op. adds op ≡ false) h →
-    Reopens (after (opened p) h) (valueOf (advance (after (opened p) h) compact))
+    (file : List ℕ) → NumberedFile file → (p : House file) (h : History) → Each (λ op. isAdd op ≡ false) h →
+    Reopens (after (opened p) h) (runValue (advance (after (opened p) h) compact))
 
 -- So whoever reads these bytes gets the answers to all further calls that a compaction in place of writing and reading leads to, slots by their numbers. (That a
 -- compaction changes no answer by arrival is `SameAnswers`.)
 abbrev pub SameAfterReading : Type 0
 SameAfterReading =
-    (file : List ℕ) → NumberedFile file → (p : House file) (h : History) → Each (λ op. adds op ≡ false) h →
+    (file : List ℕ) → NumberedFile file → (p : House file) (h : History) → Each (λ op. isAdd op ≡ false) h →
     (out : List ℕ) → WrittenAs (after (opened p) h) out → (q : House out) (ops : List Op) →
     let r = advance (after (opened p) h) compact in
     map accepted (answersTo (q .index) (q .arrays) ops) ≡ map accepted (answersTo (r .index) (r .arrays) ops) →
