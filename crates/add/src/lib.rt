@@ -1,4 +1,4 @@
-// Adding a vector: `add`, `add_keyed` and `add_keyed_multi` of vecq's store.rs.
+// Adding a vector without a key: `add` of vecq's store.rs.
 ghost use mathlib.Core.Path.{_≡_};
 ghost use Rattle.index.specs.Arrays.{lent};
 ghost use Rattle.index.specs.Step as Step;
@@ -38,74 +38,6 @@ pub fn add(
         codes2,
         scales2,
         Adding::Unkeyed,
-        vector,
-    )
-}
-
-// Overwrites the first held slot of the key, or appends one where the key has none.
-pub fn add_keyed(
-    index: Index,
-    codes: &mut [u8],
-    scales: &mut [u32],
-    keys: &mut [u64],
-    keyed: &mut [bool],
-    held: &mut [u32],
-    alive: &mut [u8],
-    codes2: &mut [u8],
-    scales2: &mut [u32],
-    key: u64,
-    vector: &[f32],
-) -> Added
-    ensures { λ r. ⌜
-        added index r (lent (codes .exit) (scales .exit) (keys .exit) (keyed .exit) (held .exit) (alive .exit) (codes2 .exit) (scales2 .exit))
-        ≡ call index (lent (codes .entry) (scales .entry) (keys .entry) (keyed .entry) (held .entry) (alive .entry) (codes2 .entry) (scales2 .entry))
-        (Step.addKeyed key (itemOf (now (vector .entry)))) ⌝ }
-{
-    place::put(
-        index,
-        codes,
-        scales,
-        keys,
-        keyed,
-        held,
-        alive,
-        codes2,
-        scales2,
-        Adding::Keyed(key),
-        vector,
-    )
-}
-
-// Appends a slot to those that the key has: it is the last one in held order.
-pub fn add_keyed_multi(
-    index: Index,
-    codes: &mut [u8],
-    scales: &mut [u32],
-    keys: &mut [u64],
-    keyed: &mut [bool],
-    held: &mut [u32],
-    alive: &mut [u8],
-    codes2: &mut [u8],
-    scales2: &mut [u32],
-    key: u64,
-    vector: &[f32],
-) -> Added
-    ensures { λ r. ⌜
-        added index r (lent (codes .exit) (scales .exit) (keys .exit) (keyed .exit) (held .exit) (alive .exit) (codes2 .exit) (scales2 .exit))
-        ≡ call index (lent (codes .entry) (scales .entry) (keys .entry) (keyed .entry) (held .entry) (alive .entry) (codes2 .entry) (scales2 .entry))
-        (Step.addMulti key (itemOf (now (vector .entry)))) ⌝ }
-{
-    place::put(
-        index,
-        codes,
-        scales,
-        keys,
-        keyed,
-        held,
-        alive,
-        codes2,
-        scales2,
-        Adding::Multi(key),
         vector,
     )
 }

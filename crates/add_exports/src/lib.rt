@@ -3,11 +3,11 @@ ghost use mathlib.Core.Path.{_≡_};
 ghost use Rattle.index.specs.Arrays.{lent};
 ghost use Rattle.index.specs.Step as Step;
 ghost use Rattle.index.specs.Step.{itemOf};
-ghost use Rattle.words.specs.Exports.{left, adds};
+ghost use Rattle.words.specs.Exports.{left, leftBy};
 use words::Record;
 
 #[no_mangle]
-pub extern "C" fn vecq_add(
+pub extern "C" fn vecq_raw_add(
     fields: &mut [u64],
     answer: &mut [u64],
     codes: &mut [u8],
@@ -23,10 +23,10 @@ pub extern "C" fn vecq_add(
     ensures { λ r. ⌜
         left r (now (fields .exit)) (now (answer .exit))
         (lent (codes .exit) (scales .exit) (keys .exit) (keyed .exit) (held .exit) (alive .exit) (codes2 .exit) (scales2 .exit))
-        ≡ adds (Step.add (itemOf (now (vector .entry)))) (now (fields .entry)) (now (answer .entry))
+        ≡ leftBy 1 (Step.add (itemOf (now (vector .entry)))) (now (fields .entry)) (now (answer .entry))
         (lent (codes .entry) (scales .entry) (keys .entry) (keyed .entry) (held .entry) (alive .entry) (codes2 .entry) (scales2 .entry)) ⌝ }
 {
-    let Record::Fields(index) = words::record_beside(fields, answer) else {
+    let Record::Fields(index) = words::record_beside(fields, answer, 1) else {
         return 13;
     };
     let added = add::add(

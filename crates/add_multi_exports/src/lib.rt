@@ -3,11 +3,11 @@ ghost use mathlib.Core.Path.{_≡_};
 ghost use Rattle.index.specs.Arrays.{lent};
 ghost use Rattle.index.specs.Step as Step;
 ghost use Rattle.index.specs.Step.{itemOf};
-ghost use Rattle.words.specs.Exports.{left, adds};
+ghost use Rattle.words.specs.Exports.{left, leftBy};
 use words::Record;
 
 #[no_mangle]
-pub extern "C" fn vecq_add_keyed_multi(
+pub extern "C" fn vecq_raw_add_keyed_multi(
     fields: &mut [u64],
     answer: &mut [u64],
     codes: &mut [u8],
@@ -24,13 +24,13 @@ pub extern "C" fn vecq_add_keyed_multi(
     ensures { λ r. ⌜
         left r (now (fields .exit)) (now (answer .exit))
         (lent (codes .exit) (scales .exit) (keys .exit) (keyed .exit) (held .exit) (alive .exit) (codes2 .exit) (scales2 .exit))
-        ≡ adds (Step.addMulti key (itemOf (now (vector .entry)))) (now (fields .entry)) (now (answer .entry))
+        ≡ leftBy 1 (Step.addMulti key (itemOf (now (vector .entry)))) (now (fields .entry)) (now (answer .entry))
         (lent (codes .entry) (scales .entry) (keys .entry) (keyed .entry) (held .entry) (alive .entry) (codes2 .entry) (scales2 .entry)) ⌝ }
 {
-    let Record::Fields(index) = words::record_beside(fields, answer) else {
+    let Record::Fields(index) = words::record_beside(fields, answer, 1) else {
         return 13;
     };
-    let added_multi = add::add_keyed_multi(
+    let added_multi = add_multi::add_keyed_multi(
         index,
         codes,
         scales,

@@ -1,6 +1,6 @@
 -- A loop that counts the entries that pass a test.
 use mathlib.Core.Path.{_≡_, refl}
-use mathlib.Core.Bool.{Bool, true, false}
+use mathlib.Core.Bool.{Bool}
 use mathlib.Core.List.{List, [], _∷_}
 use mathlib.Core.Logic.{⊎-elim}
 use Prim.Native.Nat.{ℕ, suc, _+_, _≤_, _<_}
@@ -11,16 +11,9 @@ use lib.Seq.{take-all}
 use lib.Dec.{ltb}
 use mir.Val.{boolByte}
 use borrow.Author.Tests.{le-ltb}
-use Rattle.lists.specs.Keep.{bit, count}
+use Rattle.lists.specs.Keep.{count}
+use Rattle.lists.proofs.Bits.{as-bit}
 use Rattle.lists.proofs.Keep.{count-next, count-length}
-
-as-bit : (b : Bool) → boolByte b ≡ bit b
-as-bit true = refl
-as-bit false = refl
-
-pub one-at-most : (b : Bool) → boolByte b ≤ 1
-one-at-most true = omega arith
-one-at-most false = omega arith
 
 -- n of the first i entries of xs pass
 pub record Counted (p : ℕ → Bool) (xs : List ℕ) (n i : ℕ) : Type 0 where

@@ -24,7 +24,10 @@ packable w codes bytes = isWidth w && (eqb bytes (bytesPerVector w (length codes
 unfoldable pub repacked : ℕ → List ℕ → ℕ → List ℕ → List ℕ
 repacked w codes spares block = cond (packable w codes (length block)) (packed w codes spares) block
 
--- "Spare bits are 0 after an append; an overwrite keeps them."
+-- "Spare bits are 0 after an append; an overwrite keeps them": those of a block of p codes.
+unfoldable pub spareAfter : (fresh : Bool) → (w p : ℕ) → (block : List ℕ) → ℕ
+spareAfter fresh w p block = cond fresh 0 (spare w p block)
+
 abbrev pub packedNew : ℕ → List ℕ → List ℕ → List ℕ
 packedNew w codes block = repacked w codes 0 block
 

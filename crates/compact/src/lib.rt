@@ -178,7 +178,7 @@ pub fn compact(
         scales2,
     ) {
         let n = live_slots(alive, index.n, held);
-        let size = layout::block_size(index);
+        let size = room::block_size(index);
         gather_stage(codes, scales, size, held, n);
         gather_stage(
             codes2,

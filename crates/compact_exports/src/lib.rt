@@ -3,11 +3,11 @@ ghost use mathlib.Core.Path.{_≡_};
 ghost use mathlib.Core.List.{[]};
 ghost use Rattle.index.specs.Arrays.{lent};
 ghost use Rattle.index.specs.Step.{compact};
-ghost use Rattle.words.specs.Exports.{left, changes};
+ghost use Rattle.words.specs.Exports.{left, leftBy};
 use words::Record;
 
 #[no_mangle]
-pub extern "C" fn vecq_compact(
+pub extern "C" fn vecq_raw_compact(
     fields: &mut [u64],
     codes: &mut [u8],
     scales: &mut [u32],
@@ -21,7 +21,7 @@ pub extern "C" fn vecq_compact(
     ensures { λ r. ⌜
         left r (now (fields .exit)) []
         (lent (codes .exit) (scales .exit) (keys .exit) (keyed .exit) (held .exit) (alive .exit) (codes2 .exit) (scales2 .exit))
-        ≡ changes compact (now (fields .entry))
+        ≡ leftBy 0 compact (now (fields .entry)) []
         (lent (codes .entry) (scales .entry) (keys .entry) (keyed .entry) (held .entry) (alive .entry) (codes2 .entry) (scales2 .entry)) ⌝ }
 {
     let Record::Fields(index) = words::record_in(fields) else {

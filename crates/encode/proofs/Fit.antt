@@ -5,7 +5,7 @@ use Prim.Native.Nat.{ℕ, _*_, _%_, _^_, _≤_, _<_}
 use borrow.Author.Tests.{eq-eqb, eqb-true, le-leb, lt-leb, lt-ltb, le-ltb, leb-true, ltb-true}
 use lib.Dec.{eqb, leb, ltb, lit<}
 use Rattle.lists.proofs.Tests.{both}
-use Rattle.unit.specs.Calls.{rotatable}
+use Rattle.padding.specs.Rotatable.{rotatable}
 use Rattle.unit.proofs.Rotatable.{Rotatable, is-rotatable, rotatable-of}
 use Rattle.encode.specs.Header.{Header, padded}
 use Rattle.encode.specs.Calls.{codable, encodable}

@@ -19,12 +19,11 @@ use Rattle.lloyd.specs.Quantizer.{quantized, decoded}
 use Rattle.lloyd.proofs.Quantized.{quantized-le}
 use Rattle.lloyd.proofs.Decoded.{length-decoded}
 use Rattle.codes.specs.Packing.{packed}
-use Rattle.codes.specs.Writing.{repacked}
+use Rattle.codes.specs.Writing.{repacked, spareAfter}
 use Rattle.codes.specs.Stage.{stage}
 use Rattle.codes.proofs.Tests.{written-yes}
 use Rattle.unit.proofs.Vectors.{norm-is}
 use Rattle.encode.specs.Coding.{Table, table, coded, codesOf, dequantized, plainScale, plain, packedStage}
-use Rattle.encode.specs.Calls.{spareAfter}
 use Rattle.encode.proofs.Fit.{Fits}
 
 -- ---- one stage

@@ -17,7 +17,8 @@ use Rattle.vectors.proofs.Filling.{length-divided}
 use Rattle.codes.specs.Packing.{packed}
 use Rattle.codes.specs.Stage.{stage}
 use Rattle.encode.specs.Coding.{table, coded, dequantized, packedStage}
-use Rattle.encode.specs.Calls.{spareAfter, stages, sparesAfter, storedBoth}
+use Rattle.codes.specs.Writing.{spareAfter}
+use Rattle.encode.specs.Calls.{stages, sparesAfter, storedBoth}
 use Rattle.encode.proofs.OneStage.{length-dequantized, one-is}
 use Rattle.encode.specs.declared.Scales.{Scales}
 use Rattle.encode.specs.Encode.{dot, floor, differences, rest, rootMeanSquare, scaled, joinedNorm, firstScale, secondScale, residual}

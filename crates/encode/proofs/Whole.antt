@@ -16,7 +16,8 @@ use Rattle.encode.specs.Coding.{table, plain, packedStage}
 use Rattle.encode.specs.Encode.{residual}
 use Rattle.codes.specs.Stage.{Stage, stage}
 use Rattle.encode.specs.Coded.{rotatedOf, encodedByTable}
-use Rattle.encode.specs.Calls.{spareAfter, untouched, Stages, untouchedBoth, sparesAfter, storedBoth, encodable, placed, encodedInto}
+use Rattle.codes.specs.Writing.{spareAfter}
+use Rattle.encode.specs.Calls.{untouched, Stages, untouchedBoth, sparesAfter, storedBoth, encodable, placed, encodedInto}
 use Rattle.encode.proofs.Fit.{Encodable, encodable-of}
 
 module _ (b c : List Float) (h : Header) (fresh : Bool) (v : Item) (block block2 : List ℕ) where

@@ -6,9 +6,9 @@ use Prim.Native.Nat.{ℕ, _^_}
 use lib.Dec.{eqb, leb, ltb}
 use lib.ListN.{length}
 use Rattle.unit.specs.Brought.{Item}
-use Rattle.unit.specs.Calls.{rotatable}
-use Rattle.codes.specs.Packing.{bytesPerVector, spare}
-use Rattle.codes.specs.Writing.{isWidth}
+use Rattle.padding.specs.Rotatable.{rotatable}
+use Rattle.codes.specs.Packing.{bytesPerVector}
+use Rattle.codes.specs.Writing.{isWidth, spareAfter}
 use Rattle.codes.specs.Stage.{Stage, stage}
 use Rattle.encode.specs.Coding.{Table, packedStage}
 use Rattle.encode.specs.declared.Scales.{Scales}
@@ -21,10 +21,6 @@ use Rattle.encode.specs.Coded.{Code, Spare, encodedByTable}
 -- The width is one of 1 to 8 bits, the table has no code past the width, there are at most 4,096 codes, and the block has just their bytes.
 unfoldable pub codable : (w boundaries codes block : ℕ) → Bool
 codable w boundaries codes block = isWidth w && (ltb boundaries (2 ^ w) && (leb codes 4096 && eqb block (bytesPerVector w codes)))
-
--- the spare bits that a block of p codes has after an append, and after an overwrite
-unfoldable pub spareAfter : (fresh : Bool) → (w p : ℕ) → (block : List ℕ) → ℕ
-spareAfter fresh w p block = cond fresh 0 (spare w p block)
 
 -- a block that is left as it is
 abbrev pub untouched : (block : List ℕ) → Stage

@@ -5,7 +5,7 @@ ghost use Prim.Native.Nat.{_≤_};
 ghost use lib.ListN.{length};
 ghost use Rattle.pattern.specs.Binary32.{sumSquares, larger};
 ghost use Rattle.codes.specs.Packing.{packed};
-ghost use Rattle.codes.specs.Writing.{repacked};
+ghost use Rattle.codes.specs.Writing.{spareAfter};
 ghost use Rattle.codes.specs.Stage.{stage};
 ghost use Rattle.unit.specs.Brought.{itemOf};
 ghost use Rattle.encode.specs.Header.{padded};
@@ -13,7 +13,7 @@ ghost use Rattle.lloyd.specs.Quantizer.{decoded};
 ghost use Rattle.encode.specs.Coding.{table, coded, dequantized, plain, packedStage};
 ghost use Rattle.encode.specs.Encode.{floor, differences, dot, rootMeanSquare, scaled, residual, firstScale, secondScale};
 ghost use Rattle.encode.specs.Coded.{encodedByTable};
-ghost use Rattle.encode.specs.Calls.{codable, spareAfter, stages, sparesAfter, storedBoth, encodable, placed, encodedInto};
+ghost use Rattle.encode.specs.Calls.{codable, stages, sparesAfter, storedBoth, encodable, placed, encodedInto};
 
 // What fixes how a vector is coded, and stays while slots are in use.
 pub struct Header {
@@ -72,19 +72,6 @@ fn decode(centroids: &[f32], codes: &[u8], out: &mut [f32])
     }
 }
 
-// The codes into the block of an appended slot, or over that of an overwritten one.
-fn pack(codes: &[u8], bits: u8, fresh: bool, block: &mut [u8])
-    ensures { λ _. ⌜
-        now (block .exit) ≡
-        repacked bits (now (codes .entry)) (spareAfter fresh bits (length (now (codes .entry))) (now (block .entry))) (now (block .entry)) ⌝ }
-{
-    if fresh {
-        packing::pack_new(block, codes, bits);
-    } else {
-        packing::pack_over(block, codes, bits);
-    }
-}
-
 // One stage, by way of an array of codes. The sum of squares isn't needed here.
 fn store_fitting(
     boundaries: &[f32],
@@ -104,7 +91,7 @@ fn store_fitting(
         packed bits (coded (now (boundaries .entry)) (now (xs .entry))) (spareAfter fresh bits (length (now (xs .entry))) (now (block .entry))) ⌝ }
 {
     quantizer::quantize_summing(boundaries, centroids, xs, codes);
-    pack(codes, bits, fresh, block);
+    packing::pack(codes, bits, fresh, block);
     decode(centroids, codes, d);
 }
 
@@ -158,7 +145,7 @@ fn store_plain(
         (plain (table (now (boundaries .entry)) (now (centroids .entry))) (now (rotated .entry))) ⌝ }
 {
     let sum = quantizer::quantize_summing(boundaries, centroids, rotated, codes);
-    pack(codes, bits, fresh, block);
+    packing::pack(codes, bits, fresh, block);
     let norm = sqrt::sqrt(sum);
     pattern::to_bits(1.0 / norm)
 }
@@ -362,7 +349,7 @@ fn is_encodable(
 ) -> bool
     ensures { λ r. ⌜ r ≡ encodable header boundaries entries block block2 ⌝ }
 {
-    if !unit::is_rotatable(header.working_dim, entries, 4096) {
+    if !padding::is_rotatable(header.working_dim, entries, 4096) {
         return false;
     }
     let padded = padding::padded_dim(header.working_dim);

@@ -51,7 +51,7 @@ fn bytes() -> [u8; 4096] {
 
 // Answers line after line.
 fn run(buf: &mut [u8], out: &mut [u8]) {
-    let mut cursor = lines::next_line(buf, lines::start());
+    let mut cursor = lines::next_line(buf, lines::START);
     while 0 < cursor.left {
         let n = answer(lines::line(buf, cursor), cursor.long, out);
         print::print_line(out, n);
@@ -62,7 +62,7 @@ fn run(buf: &mut [u8], out: &mut [u8]) {
 // Puts the answer to a line into out, and answers its length. A line too long can't be read.
 fn answer(line: &[u8], long: bool, out: &mut [u8]) -> usize {
     if long {
-        return print::put_unreadable(out);
+        return print::put_byte(out, 0, print::UNREADABLE);
     }
     if text::is_silent(line) {
         return 0;
@@ -98,7 +98,7 @@ fn answer_encoding(line: &[u8], fresh: bool, out: &mut [u8]) -> usize {
     let r = values::vector_at(line, last, &mut v);
     let n = r.length;
     if !(x.ok & r.ok) {
-        return print::put_unreadable(out);
+        return print::put_byte(out, 0, print::UNREADABLE);
     }
     answer_blocks(line, x.header, fresh, &v[0..n], out)
 }
@@ -145,7 +145,7 @@ fn answer_blocks(line: &[u8], header: Header, fresh: bool, v: &[f32], out: &mut 
     let n = a.length;
     let n2 = b.length;
     if !(a.ok & b.ok) {
-        return print::put_unreadable(out);
+        return print::put_byte(out, 0, print::UNREADABLE);
     }
     put_encoding(out, header, fresh, v, &mut block[0..n], &mut block2[0..n2])
 }
@@ -198,7 +198,7 @@ fn put_slot(out: &mut [u8], residual: bool, s: Scales, block: &[u8], block2: &[u
 }
 
 fn put_stage(out: &mut [u8], at: usize, block: &[u8], scale: u32) -> usize {
-    let next = numerals::put_run(out, at, block);
+    let next = runs::put_run(out, at, block);
     let after = print::put_byte(out, next, b' ');
     numerals::put_hex(out, after, scale as u64, 8)
 }
@@ -218,7 +218,7 @@ fn answer_prepare(line: &[u8], out: &mut [u8]) -> usize {
 fn put_query(out: &mut [u8], rnorm: f32, q: &[f32]) -> usize {
     let at = put_float(out, 0, rnorm);
     let next = print::put_byte(out, at, b' ');
-    numerals::put_vector(out, next, q)
+    runs::put_vector(out, next, q)
 }
 
 fn put_float(out: &mut [u8], at: usize, x: f32) -> usize {
@@ -368,7 +368,7 @@ fn score2_by_width(
 
 fn put_reply(out: &mut [u8], r: Reply) -> usize {
     match r {
-        Reply::Unreadable => print::put_unreadable(out),
+        Reply::Unreadable => print::put_byte(out, 0, print::UNREADABLE),
         Reply::Read(s) => put_scored(out, s),
         Reply::Order(n) => numerals::put_hex(out, 0, n as u64, 1),
     }

@@ -120,7 +120,7 @@ struct State {
 // Answers all lines.
 fn run(buf: &mut [u8], out: &mut [u8]) {
     let mut state = State {
-        cursor: lines::next_line(buf, lines::start()),
+        cursor: lines::next_line(buf, lines::START),
         index: first_record(),
         lent: no_lengths(),
         fresh: false,
@@ -609,7 +609,7 @@ fn change(
             scales2,
             vector,
         )),
-        17 => Done::Slot(add::add_keyed(
+        17 => Done::Slot(add_keyed::add_keyed(
             index,
             codes,
             scales,
@@ -622,7 +622,7 @@ fn change(
             call.a,
             vector,
         )),
-        18 => Done::Slot(add::add_keyed_multi(
+        18 => Done::Slot(add_multi::add_keyed_multi(
             index,
             codes,
             scales,
@@ -1556,7 +1556,7 @@ fn put_word(out: &mut [u8], reply: Reply) -> usize {
         Reply::Yes => print::put_bytes(out, 0, b"yes"),
         Reply::No => print::put_bytes(out, 0, b"no"),
         Reply::None => print::put_bytes(out, 0, b"none"),
-        _ => print::put_unreadable(out),
+        _ => print::put_byte(out, 0, print::UNREADABLE),
     }
 }
 
@@ -1659,7 +1659,7 @@ fn put_file(out: &mut [u8], written: Written, file: &[u8]) -> usize {
             let at = put_spilt(out, bytes_kept(file, n));
             let next = print::put_bytes(out, at, b"bytes ");
             let end = capped(n, file.len());
-            numerals::put_run(out, next, &file[0..end])
+            runs::put_run(out, next, &file[0..end])
         }
         Written::Refused(n) => {
             let at = put_spilt(out, bytes_kept(file, 0));

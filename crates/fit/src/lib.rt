@@ -1,11 +1,9 @@
 // Refusal 13's test of the index: whether a record and its lent arrays fit.
 ghost use mathlib.Core.Path.{_≡_};
 ghost use mathlib.Core.Bool.{false};
-ghost use Prim.Native.Nat.{ℕ, _≤_, _<_, min};
+ghost use Prim.Native.Nat.{ℕ, _≤_, _<_};
 ghost use lib.ListN.{length, getD};
-ghost use Rattle.codes.specs.Writing.{atWidth};
 ghost use Rattle.index.specs.Arrays.{lent};
-ghost use Rattle.index.specs.State as State;
 ghost use Rattle.index.specs.Fit.{fit};
 ghost use Rattle.positions.specs.Decides.{Decides};
 ghost use Rattle.fit.specs.Fits.{Fields, Marked, EachMarked, liveMarks, Marks};
@@ -42,47 +40,6 @@ fn fields_fit(index: Index) -> bool
 }
 
 // ---- room
-
-// The lower of two numbers.
-fn lower(a: usize, b: usize) -> usize
-    ensures { λ r. ⌜ r ≡ min a b ⌝ }
-{
-    if a < b {
-        return a;
-    }
-    b
-}
-
-// The fewest slots that any lent array of the index holds, at most 65,536; 0 at a width that no code has.
-pub fn capacity(
-    index: Index,
-    codes: &[u8],
-    scales: &[u32],
-    keys: &[u64],
-    keyed: &[bool],
-    held: &[u32],
-    alive: &[u8],
-    codes2: &[u8],
-    scales2: &[u32],
-) -> usize
-    ensures { λ r. ⌜
-        r ≡ atWidth (index .bits) (State.capacity (State.headerOf index)
-        (lent (codes .entry) (scales .entry) (keys .entry) (keyed .entry) (held .entry) (alive .entry) (codes2 .entry) (scales2 .entry))) ⌝ }
-{
-    let bytes = codes::bytes_per_vector(padding::padded_dim(index.working_dim), index.bits);
-    if bytes == 0 {
-        return 0;
-    }
-    let data = lower(lower(65536, codes.len() / bytes), scales.len());
-    let marks = lower(
-        lower(lower(lower(data, keys.len()), keyed.len()), held.len()),
-        alive.len(),
-    );
-    if index.residual {
-        return lower(lower(marks, codes2.len() / bytes), scales2.len());
-    }
-    marks
-}
 
 // ---- marks
 
@@ -151,7 +108,7 @@ pub fn fits(
 {
     if fields_fit(index) {
         let n = index.n;
-        let room = capacity(
+        let room = room::capacity(
             index,
             codes,
             scales,

@@ -1,8 +1,8 @@
 // The head of a file: its fields, and the tests of the first 24 or 25 bytes.
 ghost use mathlib.Core.Path.{_≡_};
 ghost use Rattle.index.specs.Form.{stagesAt};
-ghost use Rattle.index.specs.Read.{versionIn, formIn, dimIn, countIn, workingField, headerIn, stagesIn, headFault, overLimits};
-ghost use Rattle.header.specs.Head.{widthOf};
+ghost use Rattle.index.specs.Read.{versionIn, formIn, dimIn, countIn, workingField, headerIn, stagesIn, headFault};
+ghost use Rattle.header.specs.Head.{headOf, widthOf};
 use encode::Header;
 use index::Form;
 use little_endian::after;
@@ -11,9 +11,16 @@ use little_endian::rd_u16;
 use little_endian::rd_u32;
 use little_endian::rd_u64;
 
+// What the head of a file states.
+pub struct Head {
+    pub version: u16,
+    pub header: Header,
+    pub count: u32,
+}
+
 // ---- fields
 
-pub fn version_in(file: &[u8]) -> u16
+fn version_in(file: &[u8]) -> u16
     ensures { λ r. ⌜ r ≡ versionIn (now (file .entry)) ⌝ }
 {
     rd_u16(after(file, 4))
@@ -27,7 +34,7 @@ fn form_in(file: &[u8]) -> Form
 }
 
 // How many slots the file has.
-pub fn count_in(file: &[u8]) -> u32
+fn count_in(file: &[u8]) -> u32
     ensures { λ r. ⌜ r ≡ countIn (now (file .entry)) ⌝ }
 {
     rd_u32(after(file, 20))
@@ -69,7 +76,7 @@ fn width_in(file: &[u8]) -> u8
 }
 
 // The header that the file states.
-pub fn header_in(file: &[u8]) -> Header
+fn header_in(file: &[u8]) -> Header
     ensures { λ r. ⌜ r ≡ headerIn (now (file .entry)) ⌝ }
 {
     Header {
@@ -78,6 +85,16 @@ pub fn header_in(file: &[u8]) -> Header
         seed: rd_u64(after(file, 12)),
         bits: width_in(file),
         residual: form_in(file).second,
+    }
+}
+
+pub fn head_in(file: &[u8]) -> Head
+    ensures { λ r. ⌜ r ≡ headOf (now (file .entry)) ⌝ }
+{
+    Head {
+        version: version_in(file),
+        header: header_in(file),
+        count: count_in(file),
     }
 }
 
@@ -133,14 +150,4 @@ pub fn head_fault(file: &[u8]) -> u8
         return 0;
     }
     18
-}
-
-// Refusal 20 for dim and count alone.
-pub fn over_limits(file: &[u8]) -> bool
-    ensures { λ r. ⌜ r ≡ overLimits (now (file .entry)) ⌝ }
-{
-    if 4096 < dim_in(file) {
-        return true;
-    }
-    65536 < count_in(file)
 }

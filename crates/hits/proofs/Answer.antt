@@ -17,7 +17,7 @@ use Rattle.lists.proofs.Keep.{keep-none}
 use Rattle.lists.proofs.Front.{each-tab, tab-each}
 use Rattle.choose.proofs.Choice.{choose-length}
 use Rattle.score.specs.Order.{orderNumber}
-use Rattle.unit.specs.Calls.{rotatable}
+use Rattle.padding.specs.Rotatable.{rotatable}
 use Rattle.scan.specs.Scan.{takesPart}
 use Rattle.lists.proofs.Tests.{and-left, and-right}
 use Rattle.choose_slots.specs.Slots.{listed, listedWithin}

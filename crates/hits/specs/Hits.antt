@@ -9,7 +9,7 @@ use Rattle.lists.specs.Keep.{keep, any}
 use Rattle.choose.specs.Choose.{choose}
 use Rattle.score.specs.Order.{orderNumber}
 use Rattle.unit.specs.Brought.{Query}
-use Rattle.unit.specs.Calls.{rotatable}
+use Rattle.padding.specs.Rotatable.{rotatable}
 use Rattle.encode.specs.declared.Header.{Header}
 use Rattle.encode.specs.Coded.{codeIn}
 use Rattle.lists.specs.Lists.{below}

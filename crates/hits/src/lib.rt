@@ -11,7 +11,7 @@ ghost use Rattle.pattern.specs.Binary32.{+0};
 ghost use Rattle.lists.specs.Lists.{over};
 ghost use Rattle.lists.specs.Keep.{Each};
 ghost use Rattle.unit.specs.Brought.{queryOf};
-ghost use Rattle.unit.specs.Calls.{rotatable};
+ghost use Rattle.padding.specs.Rotatable.{rotatable};
 ghost use Rattle.index.specs.State.{headerOf};
 ghost use Rattle.scan.specs.Scan.{takesPart};
 ghost use Rattle.hits.specs.Hits.{scoreAt, listAnswer, shown, ready};
@@ -40,7 +40,7 @@ fn is_ready(index: Index, entries: usize) -> bool
     if 6 < index.bits {
         return false;
     }
-    unit::is_rotatable(index.working_dim, entries, 4096)
+    padding::is_rotatable(index.working_dim, entries, 4096)
 }
 
 // ---- the working arrays

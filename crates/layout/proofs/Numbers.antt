@@ -16,7 +16,7 @@ use Rattle.index.specs.Form.{stagesAt, stageSize, keysAt}
 pub few-bytes : (n scale block : ℕ) → n ≤ 0xFFFF_FFFF → scale ≤ 255 → block ≤ 65535 → n * scale + n * block ≤ 0x2_0000_0000_0000
 few-bytes n s b hn hs hb = omega (arith, mul-le-mul-left n hs, mul-le-mul-left n hb)
 
-pub bit-low : (b : Bool) → bit b ≤ 1
+bit-low : (b : Bool) → bit b ≤ 1
 bit-low true = omega arith
 bit-low false = omega arith
 

@@ -1,11 +1,7 @@
 // The layout of a file: where it ends, and how long the file of an index is.
 ghost use mathlib.Core.Path.{_≡_};
 ghost use Prim.Native.Nat.{_≤_};
-ghost use Rattle.lists.specs.Keep.{bit};
-ghost use Rattle.codes.specs.Writing.{atWidth};
-ghost use Rattle.encode.specs.Header.{blockSize};
 ghost use Rattle.index.specs.Arrays.{lent};
-ghost use Rattle.index.specs.State.{headerOf};
 ghost use Rattle.index.specs.Form.{formOf, stageSize, keysAt, endAt};
 ghost use Rattle.index.specs.Step.{fileLength};
 ghost use Rattle.index.specs.Call.{call};
@@ -16,16 +12,6 @@ use index::Index;
 use index::Written;
 
 // ---- places
-
-// A yes counts one.
-fn one_if(yes: bool) -> usize
-    ensures { λ r. ⌜ r ≡ bit yes ⌝ }
-{
-    if yes {
-        return 1;
-    }
-    0
-}
 
 // How many bytes the scales and the codes of one stage take.
 fn stage_size(form: Form, block: u16, n: u32) -> usize
@@ -39,7 +25,7 @@ fn keys_at(form: Form, block: u16, n: u32) -> usize
     ensures { λ r. ⌜ r ≡ keysAt form block n ⌝ }
 {
     let stage = stage_size(form, block, n);
-    let second = 24 + one_if(form.width) + stage;
+    let second = 24 + form.width as usize + stage;
     if form.second {
         return second + stage;
     }
@@ -86,8 +72,8 @@ pub fn count_slots(keyed: &[bool], alive: &[u8], n: usize) -> Counts
         if alive.len() <= i {
             break;
         }
-        live += one_if(marks::is_live(alive, i));
-        entries += one_if(has_entry(keyed, alive, i));
+        live += marks::is_live(alive, i) as usize;
+        entries += has_entry(keyed, alive, i) as usize;
         i += 1;
     }
     Counts {
@@ -97,13 +83,6 @@ pub fn count_slots(keyed: &[bool], alive: &[u8], n: usize) -> Counts
 }
 
 // ---- the length of an index's file
-
-// How many bytes a slot has of each stage.
-pub fn block_size(index: Index) -> usize
-    ensures { λ r. ⌜ r ≡ atWidth (index .bits) (blockSize (headerOf index)) ⌝ }
-{
-    codes::bytes_per_vector(padding::padded_dim(index.working_dim), index.bits)
-}
 
 // The length of a file of this version with these counts, its blocks being so many bytes.
 fn length_of(version: u16, block: usize, counts: Counts) -> usize
@@ -148,7 +127,7 @@ pub fn file_length(
         scales2,
     ) {
         let found = count_slots(keyed, alive, index.n);
-        return Written::Bytes(length_of(form::version_of(index), block_size(index), found));
+        return Written::Bytes(length_of(form::version_of(index), room::block_size(index), found));
     }
     Written::Refused(13)
 }

@@ -43,7 +43,7 @@ fn entries() -> [f32; 4096] {
 
 // Answers line after line.
 fn run(buf: &mut [u8], out: &mut [u8]) {
-    let mut cursor = lines::next_line(buf, lines::start());
+    let mut cursor = lines::next_line(buf, lines::START);
     while 0 < cursor.left {
         let n = answer(lines::line(buf, cursor), cursor.long, out);
         print::print_line(out, n);
@@ -54,7 +54,7 @@ fn run(buf: &mut [u8], out: &mut [u8]) {
 // Puts the answer to a line into out, and answers its length. A line too long can't be read.
 fn answer(line: &[u8], long: bool, out: &mut [u8]) -> usize {
     if long {
-        return print::put_unreadable(out);
+        return print::put_byte(out, 0, print::UNREADABLE);
     }
     if text::is_silent(line) {
         return 0;
@@ -71,7 +71,7 @@ fn command(word: &[u8]) -> usize {
 
 fn put_answer(out: &mut [u8], line: &[u8], c: usize, x: Numbers) -> usize {
     if !x.ok {
-        return print::put_unreadable(out);
+        return print::put_byte(out, 0, print::UNREADABLE);
     }
     if c < 7 {
         let r = reply_to(c, x.a, x.b);
@@ -289,7 +289,7 @@ fn put_transformed(out: &mut [u8], line: &[u8], i: usize, rotated: bool, x: Numb
     let y = values::vector_at(line, i, &mut v);
     let n = y.length;
     if !y.ok {
-        return print::put_unreadable(out);
+        return print::put_byte(out, 0, print::UNREADABLE);
     }
     if rotated {
         return put_rotated(out, Rhdh::new(x.a as usize, x.b), &v[0..n]);
@@ -299,13 +299,13 @@ fn put_transformed(out: &mut [u8], line: &[u8], i: usize, rotated: bool, x: Numb
 
 fn put_fwht(out: &mut [u8], v: &mut [f32]) -> usize {
     fwht::fwht(v);
-    numerals::put_vector(out, 0, v)
+    runs::put_vector(out, 0, v)
 }
 
 fn put_rotated(out: &mut [u8], rotation: Rhdh, v: &[f32]) -> usize {
     let padded = rotation.padded;
     if 4096 < padded {
-        return print::put_unreadable(out);
+        return print::put_byte(out, 0, print::UNREADABLE);
     }
     let mut w = entries();
     put_applied(out, rotation, v, &mut w[0..padded])
@@ -313,5 +313,5 @@ fn put_rotated(out: &mut [u8], rotation: Rhdh, v: &[f32]) -> usize {
 
 fn put_applied(out: &mut [u8], rotation: Rhdh, v: &[f32], w: &mut [f32]) -> usize {
     rotation.apply(v, w);
-    numerals::put_vector(out, 0, w)
+    runs::put_vector(out, 0, w)
 }

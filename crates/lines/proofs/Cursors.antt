@@ -2,14 +2,14 @@
 use mathlib.Core.Path.{_≡_, refl, subst, sym}
 use mathlib.Core.Bool.{false}
 use mathlib.Core.List.{List}
-use Prim.Native.Nat.{ℕ, _+_, _-_, _≤_, zero-le}
+use Prim.Native.Nat.{ℕ, _+_, _≤_, zero-le}
 use native.Mathlib.Nat.{le-refl}
 use native.Mathlib.Omega.{arith}
 use lib.Dec.{T}
 use lib.ListN.{length}
 use Rattle.lines.specs.declared.Span.{Span}
 use Rattle.lines.specs.declared.Cursor.{Cursor}
-use Rattle.lines.specs.Lines.{Within, NoNewline, noSpan, passedOver, atRest, Handed}
+use Rattle.lines.specs.Lines.{Within, NoNewline, noSpan, passedOver, atEnd, Handed}
 use Rattle.lines.proofs.Newlines.{none}
 
 pub within-empty : (n : ℕ) → Within n noSpan
@@ -24,7 +24,7 @@ over-handed buf rest left c u e =
     subst (Handed buf (left + 1)) (sym e)
     (record { line = within-empty (length buf); clean = none buf 0; passed = λ _. refl; unread = u; fewer = omega arith })
 
-pub end-handed : (buf : List ℕ) (before : ℕ) (c : Cursor) → c ≡ atRest 0 → Handed buf before c
+pub end-handed : (buf : List ℕ) (before : ℕ) (c : Cursor) → c ≡ atEnd → Handed buf before c
 end-handed buf before c e =
     subst (Handed buf before) (sym e)
     (record { line = within-empty (length buf); clean = none buf 0; passed = λ _. refl; unread = within-empty (length buf); fewer = zero-le })

@@ -28,9 +28,9 @@ clipped n s = cond (leb (s .to) n && leb (s .from) (s .to)) s noSpan
 abbrev pub partOf : List ℕ → Span → List ℕ
 partOf buf s = take (s .to - s .from) (drop (s .from) buf)
 
--- nothing is handed out and nothing is unread, as before the first line and, with a count of 0, at the end
-abbrev pub atRest : ℕ → Cursor
-atRest left = record { line = noSpan; long = false; unread = noSpan; left = left }
+-- the input has ended: nothing is handed out and nothing is unread
+abbrev pub atEnd : Cursor
+atEnd = record { line = noSpan; long = false; unread = noSpan; left = 0 }
 
 -- a line too long, after which the part `rest` is unread
 abbrev pub passedOver : Span → ℕ → Cursor

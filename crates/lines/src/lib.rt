@@ -1,6 +1,6 @@
 // The lines of standard input, one after the other, through a buffer that the caller lends:
 //
-//     let mut cursor = lines::next_line(buf, lines::start());
+//     let mut cursor = lines::next_line(buf, lines::START);
 //     while 0 < cursor.left {
 //         .. lines::line(buf, cursor) ..
 //         cursor = lines::next_line(buf, cursor);
@@ -9,7 +9,7 @@ use libc::STDIN_FILENO;
 ghost use mathlib.Core.Path.{_≡_};
 ghost use Prim.Native.Nat.{_+_, _≤_, _<_};
 ghost use lib.ListN.{length, take};
-ghost use Rattle.lines.specs.Lines.{Within, NoNewline, clipped, partOf, passedOver, atRest, Handed};
+ghost use Rattle.lines.specs.Lines.{Within, NoNewline, clipped, partOf, passedOver, atEnd, Handed};
 
 // A part of the buffer: the bytes from `from` up to `to`.
 pub struct Span {
@@ -29,12 +29,13 @@ pub struct Cursor {
     pub left: u64,
 }
 
-// Before the first line: the count is the largest there is.
-pub fn start() -> Cursor
-    ensures { λ r. ⌜ r ≡ atRest 18446744073709551615 ⌝ }
-{
-    at_rest(u64::MAX)
-}
+// Before the first line: nothing is handed out or unread, and the count is the largest there is.
+pub const START: Cursor = Cursor {
+    line: Span { from: 0, to: 0 },
+    long: false,
+    unread: Span { from: 0, to: 0 },
+    left: u64::MAX,
+};
 
 // The bytes of the line that is handed out.
 pub fn line(buf: &[u8], cursor: Cursor) -> &[u8]
@@ -76,7 +77,7 @@ pub fn next_line(buf: &mut [u8], before: Cursor) -> Cursor
             to: kept + got,
         };
     }
-    at_rest(0)
+    at_end()
 }
 
 // The part itself, or none of the buffer where the part is not within it.
@@ -148,7 +149,7 @@ fn last(buf: &[u8], kept: usize, long: bool, left: u64) -> Cursor
         return passed_over(none, left);
     }
     if kept == 0 {
-        return at_rest(0);
+        return at_end();
     }
     Cursor {
         line: Span { from: 0, to: kept },
@@ -169,15 +170,15 @@ fn passed_over(rest: Span, left: u64) -> Cursor
     }
 }
 
-// Nothing is handed out, and nothing is unread.
-fn at_rest(left: u64) -> Cursor
-    ensures { λ r. ⌜ r ≡ atRest left ⌝ }
+// The input has ended: nothing is handed out, and nothing is unread.
+fn at_end() -> Cursor
+    ensures { λ r. ⌜ r ≡ atEnd ⌝ }
 {
     Cursor {
         line: Span { from: 0, to: 0 },
         long: false,
         unread: Span { from: 0, to: 0 },
-        left: left,
+        left: 0,
     }
 }
 

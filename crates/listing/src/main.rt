@@ -1,8 +1,8 @@
-// Prints the listing of a file of the byte form, which it reads on standard input. What a listing is, and what holds of it, stands in `listing_text`.
+// Prints the listing of a file of the byte form, which it reads on standard input. What a listing is, and what holds of it, stands in `listed`.
 ghost use mathlib.Core.Path.{_≡_};
 ghost use lib.ListN.{length, take};
 ghost use Rattle.io.specs.Counts.{Counts};
-ghost use Rattle.listing_text.specs.Listing.{listingText};
+ghost use Rattle.listed.specs.Listing.{listingText};
 
 // One byte more than the longest file that is no refusal 20: of a longer file these bytes give the listing (`PartTells`).
 fn input() -> [u8; 65537] {

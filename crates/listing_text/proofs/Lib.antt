@@ -1,6 +1,4 @@
--- Laws of the text, and the theorems on it.
+-- Laws of putting the text.
 mod Lines
 mod Reading
 mod Text
-pub mod Fits
-pub mod Cut

@@ -15,7 +15,7 @@ use Rattle.numerals.specs.Numerals.{decimalText}
 use Rattle.slot_keys.specs.Has.{keyAt}
 use Rattle.encode.specs.declared.Header.{Header}
 use Rattle.index.proofs.Blocks.{joined-append}
-use Rattle.listing_text.specs.Listing.{headLine, keyText, upperDigit, halfText}
+use Rattle.listed.specs.Listing.{headLine, keyText, upperDigit, halfText}
 
 -- ---- pieces
 

@@ -1,10 +1,10 @@
 -- What reading into the arrays of a listing answers and leaves.
 use mathlib.Core.Path.{_≡_, refl, sym, ap, _∙_}
-use mathlib.Core.Bool.{Bool, false, cond}
+use mathlib.Core.Bool.{false, cond}
 use mathlib.Core.List.{List, map}
 use mathlib.Core.Option.{Option, none, some}
 use Prim.Native.Nat.{ℕ, zero, suc, _<_}
-use lib.ListN.{length, getD, length-replicate}
+use lib.ListN.{getD}
 use Rattle.lists.specs.Lists.{tab, over}
 use Rattle.lists.proofs.Laws.{length-tab, getD-tab}
 use Rattle.lists.proofs.Front.{getD-front, map-tab}
@@ -13,44 +13,11 @@ use Rattle.index.specs.declared.Made.{Made}
 use Rattle.index.specs.Arrays.{Arrays}
 use Rattle.index.specs.State.{Mark, keyed, hasKey, keyWord, overlay}
 use Rattle.index.specs.Make.{Begun, begun}
-use Rattle.index.specs.Read.{countIn, headerIn, markFrom, keyFrom, entriesIn, slotIn, slotsIn, readRefusal, readUnless, readInto}
-use Rattle.index.proofs.Overlay.{SameLengths, same-rooms}
+use Rattle.index.specs.Read.{countIn, markFrom, keyFrom, entriesIn, slotIn, slotsIn, readRefusal, readUnless, readInto}
+use Rattle.index.proofs.Overlay.{SameLengths}
 use Rattle.compact.proofs.Rising.{rising-map}
-use Rattle.listing_text.specs.Listing.{room, refusalOf}
-
--- ---- room
-
-pub slots-room : length (room .scales) ≡ 1024
-unfolding room
-slots-room = length-replicate {A = ℕ} 1024 0
-
-bytes-room : length (room .codes) ≡ 32768
-unfolding room
-bytes-room = length-replicate {A = ℕ} 32768 0
-
-flags-room : length (room .keyed) ≡ 1024
-unfolding room
-flags-room = length-replicate {A = Bool} 1024 false
-
-pub as-large : (a : Arrays) → length (a .codes) ≡ 32768 → length (a .scales) ≡ 1024 → length (a .keys) ≡ 1024 → length (a .keyed) ≡ 1024 → length (a .held) ≡ 1024
-    → length (a .alive) ≡ 1024 → length (a .codes2) ≡ 32768 → length (a .scales2) ≡ 1024 → SameLengths a room
-unfolding room
-as-large a codes scales keys flags held alive codes2 scales2 =
-    record {
-      codes = codes ∙ sym bytes-room;
-      scales = scales ∙ sym slots-room;
-      keys = keys ∙ sym slots-room;
-      keyed = flags ∙ sym flags-room;
-      held = held ∙ sym slots-room;
-      alive = alive ∙ sym slots-room;
-      codes2 = codes2 ∙ sym bytes-room;
-      scales2 = scales2 ∙ sym slots-room;
-    }
-
--- only room counts
-refusal-same : (file : List ℕ) (a : Arrays) → SameLengths a room → readRefusal file a ≡ readRefusal file room
-unfolding readRefusal
-refusal-same file a s = rw (same-rooms (headerIn file) a room s)
+use Rattle.listed.specs.Listing.{room, refusalOf}
+use Rattle.listed.proofs.Room.{refusal-same}
 
 -- ---- keys
 

@@ -16,7 +16,7 @@ ghost use Rattle.print.specs.Printed.{Prints};
 ghost use Rattle.slot_keys.specs.Has.{keyAt};
 ghost use Rattle.index.specs.Step.{firstOf};
 ghost use Rattle.index.specs.Read.{versionIn, countIn, headerIn, headFault, keyFrom, entriesIn, readRefusal};
-ghost use Rattle.listing_text.specs.Listing.{room, nextNumber, headLine, keyText, upperDigit, halfText, slotLine, refusalLine, halfIn, linesOf, textUnless, listingText, refusalOf};
+ghost use Rattle.listed.specs.Listing.{room, nextNumber, headLine, keyText, upperDigit, halfText, slotLine, refusalLine, halfIn, linesOf, textUnless, listingText, refusalOf};
 use index::Made;
 
 // ---- the arrays that a file is read into
@@ -95,7 +95,7 @@ fn half_of(file: &[u8], slot: u32) -> u16
     ensures { λ r. ⌜ r ≡ halfIn (now (file .entry)) slot ⌝ }
 {
     let scales = header::stages_in(file);
-    if form::form_of(header::version_in(file)).scale == 4 {
+    if form::form_of(header::head_in(file).version).scale == 4 {
         let pattern = little_endian::rd_u32(little_endian::after(scales, slot as usize * 4));
         return half::f32_to_f16_bits(pattern);
     }
@@ -123,12 +123,13 @@ fn put_head(out: &mut [u8], file: &[u8]) -> usize
         Prints (now (out .entry)) 0 (headLine (versionIn (now (file .entry))) (headerIn (now (file .entry))) (countIn (now (file .entry))))
         (now (out .exit)) r ⌝ }
 {
-    let header = header::header_in(file);
-    let version_end = numerals::put_decimal(out, 0, header::version_in(file) as u64);
+    let head = header::head_in(file);
+    let header = head.header;
+    let version_end = numerals::put_decimal(out, 0, head.version as u64);
     let dim_end = put_next(out, version_end, header.dim as u64);
     let working_end = put_next(out, dim_end, header.working_dim as u64);
     let width_end = put_next(out, working_end, header.bits as u64);
-    let end = put_next(out, width_end, header::count_in(file) as u64);
+    let end = put_next(out, width_end, head.count as u64);
     print::put_byte(out, end, b'\n')
 }
 
@@ -182,7 +183,7 @@ fn put_slots(out: &mut [u8], at: usize, keys: &[u64], keyed: &[bool], file: &[u8
     ensures { λ r. ⌜
         Prints (now (out .entry)) at (linesOf (now (file .entry)) (keyAt (now (keys .entry)) (now (keyed .entry)))) (now (out .exit)) r ⌝ }
 {
-    let n = header::count_in(file);
+    let n = header::head_in(file).count;
     let mut next = at;
     let mut slot: u32 = 0;
     while slot < n {
@@ -208,7 +209,7 @@ fn put_read(out: &mut [u8], file: &[u8]) -> usize
     put_refusal(out, number)
 }
 
-// Puts the text at the front of out and answers the place after it. What has no room is cut off: 65,536 places are enough (proofs/Fits.antt).
+// Puts the text at the front of out and answers the place after it. What has no room is cut off: 65,536 places are enough (`TextFits` of `listed`).
 pub fn put_listing(out: &mut [u8], file: &[u8]) -> usize
     ensures { λ r. ⌜ Prints (now (out .entry)) 0 (listingText (now (file .entry))) (now (out .exit)) r ⌝ }
 {

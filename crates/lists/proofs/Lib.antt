@@ -5,3 +5,4 @@ pub mod Keep
 pub mod Front
 pub mod Writing
 pub mod Tests
+pub mod Bits

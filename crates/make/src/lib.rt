@@ -60,7 +60,7 @@ fn make(
         live: 0,
         cascade: false,
     };
-    let room = fit::capacity(
+    let room = room::capacity(
         index,
         codes,
         scales,

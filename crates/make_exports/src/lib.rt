@@ -1,13 +1,21 @@
-// Making an index, for C and Rust. `fields` are the words of the record (crate words): the calls write them, and no other lent slice.
+// Making an index, for C and Rust. `fields` are the words of the record (crate words): the calls write them, and no other lent slice. With it the number of the raw signatures.
 ghost use mathlib.Core.Path.{_≡_};
 ghost use mathlib.Core.Bool.{true, false};
 ghost use mathlib.Core.List.{[]};
 ghost use Rattle.index.specs.Arrays.{lent};
 ghost use Rattle.index.specs.Make.{newHeader};
-ghost use Rattle.words.specs.Exports.{left, makes};
+ghost use Rattle.words.specs.Exports.{left, makes, abi};
+
+// What a caller compares with the number that its own declarations are for.
+#[no_mangle]
+pub extern "C" fn vecq_raw_abi() -> u64
+    ensures { λ r. ⌜ r ≡ abi ⌝ }
+{
+    words::ABI
+}
 
 #[no_mangle]
-pub extern "C" fn vecq_new(
+pub extern "C" fn vecq_raw_new(
     fields: &mut [u64],
     codes: &[u8],
     scales: &[u32],
@@ -39,7 +47,7 @@ pub extern "C" fn vecq_new(
 }
 
 #[no_mangle]
-pub extern "C" fn vecq_with_working_dim(
+pub extern "C" fn vecq_raw_with_working_dim(
     fields: &mut [u64],
     codes: &[u8],
     scales: &[u32],
@@ -73,7 +81,7 @@ pub extern "C" fn vecq_with_working_dim(
 }
 
 #[no_mangle]
-pub extern "C" fn vecq_with_residual(
+pub extern "C" fn vecq_raw_with_residual(
     fields: &mut [u64],
     codes: &[u8],
     scales: &[u32],

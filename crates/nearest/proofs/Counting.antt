@@ -14,6 +14,7 @@ use mir.Val.{boolByte}
 use borrow.Author.Tests.{lt-ltb, le-ltb, eq-eqb, ne-eqb, ltb-true, ltb-false}
 use Rattle.lists.specs.Lists.{tab, below}
 use Rattle.lists.specs.Keep.{bit, count}
+use Rattle.lists.proofs.Bits.{as-bit}
 use Rattle.lists.proofs.Laws.{length-tab, getD-tab, tab-ext}
 use Rattle.lists.proofs.Entries.{set-tab}
 use Rattle.lists.proofs.Front.{each-tab}
@@ -24,14 +25,6 @@ use Rattle.nearest.specs.declared.Limit.{Limit}
 use Rattle.nearest.specs.Limit.{under, level, Reached, Unreached, Limits, isMarked}
 
 -- ---- among the numbers below n
-
-as-bit : (b : Bool) → boolByte b ≡ bit b
-as-bit true = refl
-as-bit false = refl
-
-pub byte-low : (b : Bool) → boolByte b ≤ 1
-byte-low true = omega arith
-byte-low false = omega arith
 
 module _ (p : ℕ → Bool) where
   count-up : (n : ℕ) → count p (below (suc n)) ≡ count p (below n) + bit (p n)

@@ -24,7 +24,8 @@ use Rattle.codes.proofs.Packing.{length-unpacked, getD-unpacked}
 use Rattle.codes.proofs.Tests.{at-width}
 use Rattle.unit.specs.Brought.{Query}
 use Rattle.unit.specs.Unit.{rnorm, prepared, unit, norm}
-use Rattle.unit.specs.Calls.{rotatable, query, preparedInto}
+use Rattle.padding.specs.Rotatable.{rotatable}
+use Rattle.unit.specs.Calls.{query, preparedInto}
 use Rattle.vectors.proofs.Filling.{length-divided}
 use Rattle.unit.proofs.Vectors.{length-rotated}
 use Rattle.encode.specs.declared.Header.{Header}

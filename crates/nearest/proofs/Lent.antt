@@ -12,7 +12,7 @@ use Rattle.lists.specs.Keep.{bit, Each}
 use Rattle.lists.proofs.Laws.{length-tab, getD-tab, length-over}
 use Rattle.lists.proofs.Front.{part-tab, each-tab}
 use Rattle.lists.proofs.Tests.{both}
-use Rattle.unit.specs.Calls.{rotatable}
+use Rattle.padding.specs.Rotatable.{rotatable}
 use Rattle.unit.proofs.Rotatable.{rotatable-of}
 use Rattle.index.specs.declared.Index.{Index}
 use Rattle.index.specs.State.{headerOf}

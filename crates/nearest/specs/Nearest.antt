@@ -6,7 +6,7 @@ use lib.Dec.{leb, ltb, eqb}
 use Rattle.lists.specs.Lists.{tab, below}
 use Rattle.lists.specs.Keep.{bit, keep, count}
 use Rattle.marks.specs.Live.{liveAt}
-use Rattle.unit.specs.Calls.{rotatable}
+use Rattle.padding.specs.Rotatable.{rotatable}
 
 module _ (distance : ℕ → ℕ) (alive : List ℕ) (n : ℕ) where
   -- slot i stands before slot j: nearer, or as near with the lower number

@@ -6,7 +6,7 @@ ghost use lib.ListN.{length, getD};
 ghost use lib.Ieee.{nan};
 ghost use Rattle.lists.specs.Lists.{tab, over};
 ghost use Rattle.unit.specs.Brought.{queryOf};
-ghost use Rattle.unit.specs.Calls.{rotatable};
+ghost use Rattle.padding.specs.Rotatable.{rotatable};
 ghost use Rattle.index.specs.State.{headerOf};
 ghost use Rattle.index.specs.Codec as Codec;
 ghost use Rattle.nearest.specs.Distances.{liveDistance};

@@ -132,7 +132,7 @@ fn is_ready(slots: usize, marks: usize, width: u8, working_dim: usize, entries: 
     if width != 4 {
         return false;
     }
-    unit::is_rotatable(working_dim, entries, 4096)
+    padding::is_rotatable(working_dim, entries, 4096)
 }
 
 // Marks the r nearest live slots: 1 for each, 0 for the others in use. Nothing is written where the record is out of range, the query can't be

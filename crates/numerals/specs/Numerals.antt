@@ -1,10 +1,10 @@
--- How numbers are printed, and runs of them.
+-- How numbers are printed.
 use mathlib.Core.Path.{_≡_, refl}
 use mathlib.Core.Bool.{cond, _&&_}
 use mathlib.Core.List.{List, [], _∷_, _++_}
 use Prim.Native.Nat.{ℕ, zero, suc, _-_, _/_, _%_}
 use lib.Dec.{ltb}
-use Rattle.io.specs.Digits.{glyph, digits}
+use Rattle.io.specs.Digits.{glyph}
 
 -- The numeral of n in base b: that of the quotient, then the last digit. It has `least` digits at least, zeros in front, and the last `most` at most.
 unfoldable pub numeral : (b least most n : ℕ) → List ℕ
@@ -18,17 +18,7 @@ decimalText n = numeral 10 1 20 n
 abbrev pub hexadecimalText : (least n : ℕ) → List ℕ
 hexadecimalText least n = numeral 16 least 16 n
 
--- w hexadecimal digits for each element, run together; `number` is the number that an element is printed as
-abbrev pub digitsOfEach : {A : Type 0} → ℕ → (A → ℕ) → List A → List ℕ
-digitsOfEach w number [] = []
-digitsOfEach w number (x ∷ xs) = digits 16 w (number x) ++ digitsOfEach w number xs
-
--- "run together", and `-` where there is no element
-abbrev pub runText : {A : Type 0} → ℕ → (A → ℕ) → List A → List ℕ
-runText w number [] = 45 ∷ []
-runText w number (x ∷ xs) = digitsOfEach w number (x ∷ xs)
-
--- worked by hand: 0 is `0`, 107 is `107`, 27 in four digits is `001b`; the bytes 10 and 255 are `0aff`
+-- worked by hand: 0 is `0`, 107 is `107`, 27 in four digits is `001b`
 none : decimalText 0 ≡ 48 ∷ []
 unfolding numeral
 none = refl
@@ -40,6 +30,3 @@ within = refl
 in-four : hexadecimalText 4 27 ≡ 48 ∷ 48 ∷ 49 ∷ 98 ∷ []
 unfolding numeral
 in-four = refl
-
-worked : runText 2 (λ (b : ℕ). b) (10 ∷ 255 ∷ []) ≡ 48 ∷ 97 ∷ 102 ∷ 102 ∷ []
-worked = refl

@@ -6,7 +6,7 @@ ghost use lib.ListN.{length, set, take};
 ghost use Rattle.lists.specs.Lists.{over};
 ghost use Rattle.digits.specs.Digits.{number, digits, Below, digitsBelow};
 ghost use Rattle.codes.specs.Packing.{spare, packed};
-ghost use Rattle.codes.specs.Writing.{packable, packedNew, packedOver};
+ghost use Rattle.codes.specs.Writing.{packable, repacked, spareAfter, packedNew, packedOver};
 
 // 2 to the power k.
 fn power(k: u8) -> u64
@@ -128,8 +128,8 @@ fn put_codes(block: &mut [u8], codes: &[u8], bits: u8)
     put_rest(&mut block[start..end], &codes[from..to], bits);
 }
 
-// The codes of a vector, over the block of a slot that is overwritten: the spare bits stay.
-pub fn pack_over(block: &mut [u8], codes: &[u8], bits: u8)
+// Over the block of a slot that is overwritten: the spare bits stay.
+fn pack_over(block: &mut [u8], codes: &[u8], bits: u8)
     ensures { λ _. ⌜ now (block .exit) ≡ packedOver bits (now (codes .entry)) (now (block .entry)) ⌝ }
 {
     if is_packable(block.len(), codes, bits) {
@@ -147,12 +147,25 @@ fn clear_last(block: &mut [u8])
     }
 }
 
-// The codes of a vector, into the block of a slot that is appended: the spare bits become 0.
-pub fn pack_new(block: &mut [u8], codes: &[u8], bits: u8)
+// Into the block of a slot that is appended: the spare bits become 0.
+fn pack_new(block: &mut [u8], codes: &[u8], bits: u8)
     ensures { λ _. ⌜ now (block .exit) ≡ packedNew bits (now (codes .entry)) (now (block .entry)) ⌝ }
 {
     if is_packable(block.len(), codes, bits) {
         clear_last(block);
         put_codes(block, codes, bits);
+    }
+}
+
+// The codes of a vector, into the block of an appended slot, or over that of an overwritten one.
+pub fn pack(codes: &[u8], bits: u8, fresh: bool, block: &mut [u8])
+    ensures { λ _. ⌜
+        now (block .exit) ≡
+        repacked bits (now (codes .entry)) (spareAfter fresh bits (length (now (codes .entry))) (now (block .entry))) (now (block .entry)) ⌝ }
+{
+    if fresh {
+        pack_new(block, codes, bits);
+    } else {
+        pack_over(block, codes, bits);
     }
 }

@@ -1,2 +1,3 @@
 -- What the contracts of this and of other crates cite.
 pub mod Padded
+pub mod Rotatable

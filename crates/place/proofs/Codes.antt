@@ -20,7 +20,7 @@ use Rattle.lloyd.specs.Tables.{levelsOf, centroidsOf, boundariesOf}
 use Rattle.lloyd.proofs.Places.{lent}
 use Rattle.lloyd.proofs.Widths.{centroids-length, boundaries-length, boundaries-count}
 use Rattle.codes.specs.Slots.{blockAt}
-use Rattle.codes.specs.Writing.{atWidth}
+use Rattle.codes.specs.Writing.{atWidth, spareAfter}
 use Rattle.codes.proofs.Slots.{block-there, length-block}
 use Rattle.codes.specs.Stage.{Stage}
 use Rattle.unit.proofs.Rotatable.{padded-most}
@@ -30,7 +30,7 @@ use Rattle.encode.specs.Header.{padded, blockSize}
 use Rattle.encode.specs.Coding.{table}
 use Rattle.encode.specs.Coded as Coded
 use Rattle.encode.specs.Coded.{Code}
-use Rattle.encode.specs.Calls.{spareAfter, Stages, stages, sparesAfter, encodable, placed, encodedInto}
+use Rattle.encode.specs.Calls.{Stages, stages, sparesAfter, encodable, placed, encodedInto}
 use Rattle.encode.proofs.Fit.{is-encodable}
 use Rattle.index.specs.Arrays.{Arrays}
 use Rattle.index.specs.State.{slotAt, putSlot}

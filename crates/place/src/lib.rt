@@ -208,7 +208,7 @@ fn refusal(
         if fault != 0 {
             return fault;
         }
-        let room = fit::capacity(
+        let room = room::capacity(
             index,
             codes,
             scales,

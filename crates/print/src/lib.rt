@@ -6,6 +6,9 @@ ghost use Prim.Native.Nat.{min};
 ghost use lib.Seq.{sets};
 ghost use Rattle.print.specs.Printed.{Prints};
 
+// The answer to a line that can't be read.
+pub const UNREADABLE: u8 = b'?';
+
 pub fn put_byte(out: &mut [u8], at: usize, b: u8) -> usize
     ensures { λ r. ⌜ Prints (now (out .entry)) at (b ∷ []) (now (out .exit)) r ⌝ }
 {
@@ -26,13 +29,6 @@ pub fn put_bytes(out: &mut [u8], at: usize, bytes: &[u8]) -> usize
         i += 1;
     }
     end
-}
-
-// The answer to a line that can't be read, at the front of out.
-pub fn put_unreadable(out: &mut [u8]) -> usize
-    ensures { λ r. ⌜ Prints (now (out .entry)) 0 (63 ∷ []) (now (out .exit)) r ⌝ }
-{
-    put_byte(out, 0, b'?')
 }
 
 // Writes the first n bytes of out to standard output, and a newline.

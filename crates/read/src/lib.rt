@@ -49,9 +49,10 @@ fn sizes_in(file: &[u8]) -> Sizes
     requires { ⌜ (headFault (now file) ≡ 0) × (overLimits (now file) ≡ false) ⌝ }
     ensures { λ r. ⌜ r ≡ sizesOf (now (file .entry)) ⌝ }
 {
-    let form = form::form_of(header::version_in(file));
-    let block = layout::block_size(index_in(file));
-    let n = header::count_in(file) as usize;
+    let head = header::head_in(file);
+    let form = form::form_of(head.version);
+    let block = room::block_size(index_in(file));
+    let n = head.count as usize;
     let first = stage_length(form, block, n);
     Sizes {
         form: form,
@@ -169,6 +170,18 @@ fn keys_sound(file: &[u8], sizes: Sizes) -> bool
     )
 }
 
+// Refusal 20 for dim and count alone.
+fn over_limits(file: &[u8]) -> bool
+    ensures { λ r. ⌜ r ≡ overLimits (now (file .entry)) ⌝ }
+{
+    let head = header::head_in(file);
+    let header = head.header;
+    if 4096 < header.dim {
+        return true;
+    }
+    65536 < head.count
+}
+
 // The refusal that what follows the head gives; 0 for none.
 fn body_fault(file: &[u8]) -> u8
     requires { ⌜ (headFault (now file) ≡ 0) × (overLimits (now file) ≡ false) ⌝ }
@@ -178,7 +191,7 @@ fn body_fault(file: &[u8]) -> u8
     if header::stages_in(file).len() < sizes.first {
         return 14;
     }
-    if header::header_in(file).dim == 0 {
+    if index_in(file).dim == 0 {
         return 17;
     }
     if rest_short(file, sizes) {
@@ -194,8 +207,9 @@ fn body_fault(file: &[u8]) -> u8
 fn index_in(file: &[u8]) -> Index
     ensures { λ r. ⌜ r ≡ recordOf (stateIn (now (file .entry))) ⌝ }
 {
-    let header = header::header_in(file);
-    let n = header::count_in(file) as usize;
+    let head = header::head_in(file);
+    let header = head.header;
+    let n = head.count as usize;
     Index {
         dim: header.dim,
         working_dim: header.working_dim,
@@ -228,11 +242,11 @@ pub fn read_fault(
     if head != 0 {
         return head;
     }
-    if header::over_limits(file) {
+    if over_limits(file) {
         return 20;
     }
     let index = index_in(file);
-    let room = fit::capacity(
+    let room = room::capacity(
         index,
         codes,
         scales,

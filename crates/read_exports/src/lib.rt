@@ -40,7 +40,7 @@ fn without_place(
 }
 
 #[no_mangle]
-pub extern "C" fn vecq_from_bytes(
+pub extern "C" fn vecq_raw_from_bytes(
     fields: &mut [u64],
     codes: &mut [u8],
     scales: &mut [u32],

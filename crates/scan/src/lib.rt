@@ -132,6 +132,31 @@ fn word_six(block: &[u8], at: usize) -> u64
     word_five(block, at) + 0x100_0000_0000 * byte_at(block, at + 5)
 }
 
+// Where the table has the lowest pair of a word.
+fn pair_place(word: u64, base: u64) -> usize
+    requires { ⌜ (0 < base) × (base ≤ 4096) ⌝ }
+    ensures { λ r. ⌜ (r ≡ word % base * 2) × (r + 1 < base * 2) ⌝ }
+{
+    (word % base) as usize * 2
+}
+
+// A running sum with two codes more, of the query's entries i and k.
+fn wide_lane(
+    sum: f32,
+    query: &[f32],
+    pairs: &[f32],
+    i: usize,
+    at: usize,
+    k: usize,
+    later: usize,
+) -> f32
+    requires { ⌜ (i < length (now query)) × (k < length (now query)) × (at < length (now pairs)) × (later < length (now pairs)) ⌝ }
+    ensures { λ r. ⌜
+        r ≡ sum ⊕ getD (now (query .entry)) i nan ⊗ getD (now (pairs .entry)) at nan ⊕ getD (now (query .entry)) k nan ⊗ getD (now (pairs .entry)) later nan ⌝ }
+{
+    sum + query[i] * pairs[at] + query[k] * pairs[later]
+}
+
 // Four running sums with eight codes more, which a word has as four pairs, its digits to the base: lane j takes code i + j, and then code i + 4 + j.
 fn wide_step(
     acc: [f32; 4],
@@ -146,15 +171,15 @@ fn wide_step(
         r ≡ tab (λ j. getD acc j nan ⊕ wordProduct base (now (pairs .entry)) (now (query .entry)) word i j
         ⊕ wordProduct base (now (pairs .entry)) (now (query .entry)) word i (4 + j)) 4 ⌝ }
 {
-    let a = (word % base) as usize * 2;
-    let b = (word / base % base) as usize * 2;
-    let c = (word / base / base % base) as usize * 2;
-    let d = (word / base / base / base % base) as usize * 2;
+    let a = pair_place(word, base);
+    let b = pair_place(word / base, base);
+    let c = pair_place(word / base / base, base);
+    let d = pair_place(word / base / base / base, base);
     [
-        acc[0] + query[i] * pairs[a] + query[i + 4] * pairs[c],
-        acc[1] + query[i + 1] * pairs[a + 1] + query[i + 5] * pairs[c + 1],
-        acc[2] + query[i + 2] * pairs[b] + query[i + 6] * pairs[d],
-        acc[3] + query[i + 3] * pairs[b + 1] + query[i + 7] * pairs[d + 1],
+        wide_lane(acc[0], query, pairs, i, a, i + 4, c),
+        wide_lane(acc[1], query, pairs, i + 1, a + 1, i + 5, c + 1),
+        wide_lane(acc[2], query, pairs, i + 2, b, i + 6, d),
+        wide_lane(acc[3], query, pairs, i + 3, b + 1, i + 7, d + 1),
     ]
 }
 

@@ -5,7 +5,7 @@ use mathlib.Core.List.{[], _∷_}
 use Prim.Native.Nat.{ℕ, zero, suc, _≤_}
 use native.Mathlib.Omega.{arith}
 use lib.ListN.{length}
-use Rattle.unit.specs.Calls.{rotatable}
+use Rattle.padding.specs.Rotatable.{rotatable}
 use Rattle.unit.proofs.Rotatable.{is-rotatable, padded-most}
 use Rattle.vectors.proofs.Faults.{has-length}
 use Rattle.encode.specs.declared.Header.{Header}

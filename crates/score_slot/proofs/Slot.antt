@@ -19,7 +19,8 @@ use Rattle.codes.specs.Stage.{Stage, stage}
 use Rattle.codes.specs.Writing.{atWidth}
 use Rattle.unit.specs.Brought.{Query}
 use Rattle.unit.specs.Unit.{rotatedBy, prepared, unit, norm}
-use Rattle.unit.specs.Calls.{rotatable, Prepared, query, preparedInto}
+use Rattle.padding.specs.Rotatable.{rotatable}
+use Rattle.unit.specs.Calls.{Prepared, query, preparedInto}
 use Rattle.vectors.proofs.Filling.{length-divided}
 use Rattle.unit.proofs.Vectors.{length-rotated}
 use Rattle.encode.specs.declared.Header.{Header}

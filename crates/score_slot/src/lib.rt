@@ -4,7 +4,7 @@ ghost use mathlib.Core.Bool.{cond, true};
 ghost use mathlib.Core.Option.{none, some};
 ghost use Prim.Native.Nat.{_≤_};
 ghost use lib.ListN.{length, getD};
-ghost use Rattle.unit.specs.Calls.{rotatable};
+ghost use Rattle.padding.specs.Rotatable.{rotatable};
 ghost use Rattle.encode.specs.Coded.{codeIn};
 ghost use Rattle.score.specs.Score.{slotScore, judged};
 ghost use Rattle.index.specs.Arrays.{lent};

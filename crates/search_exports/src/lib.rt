@@ -6,11 +6,22 @@ ghost use Rattle.index.specs.Arrays.{lent};
 ghost use Rattle.index.specs.Step as Step;
 ghost use Rattle.index.specs.Step.{queryOf};
 ghost use Rattle.index.specs.Answers.{hitCount, found, foundKeyed, LaterKept};
+ghost use Rattle.words.specs.Put.{put, putFound};
 ghost use Rattle.words.specs.Exports.{foundIn, wordCount, answerBeside};
+use index::Found;
 use words::Record;
 
+fn put_found(found: Found, answer: &mut [u64]) -> u8
+    ensures { λ r. ⌜ put r (now (answer .exit)) ≡ putFound found (now (answer .entry)) ⌝ }
+{
+    match found {
+        Found::Hits(count) => answer_words::put_word(count as u64, answer),
+        Found::Refused(number) => number,
+    }
+}
+
 #[no_mangle]
-pub extern "C" fn vecq_search(
+pub extern "C" fn vecq_raw_search(
     fields: &[u64],
     answer: &mut [u64],
     codes: &[u8],
@@ -34,7 +45,7 @@ pub extern "C" fn vecq_search(
     ensures { λ r. let m = hitCount (foundIn r (now (answer .exit))) in
         ⌜ LaterKept m (now (slots .entry)) (now (slots .exit)) × LaterKept m (now (scores .entry)) (now (scores .exit)) ⌝ }
 {
-    let Record::Fields(index) = words::record_beside(fields, answer) else {
+    let Record::Fields(index) = words::record_beside(fields, answer, 1) else {
         return 13;
     };
     let found = search::search(
@@ -52,11 +63,11 @@ pub extern "C" fn vecq_search(
         slots,
         scores,
     );
-    answer_words::put_found(found, answer)
+    put_found(found, answer)
 }
 
 #[no_mangle]
-pub extern "C" fn vecq_search_keyed(
+pub extern "C" fn vecq_raw_search_keyed(
     fields: &[u64],
     answer: &mut [u64],
     codes: &[u8],
@@ -80,7 +91,7 @@ pub extern "C" fn vecq_search_keyed(
     ensures { λ r. let m = hitCount (foundIn r (now (answer .exit))) in
         ⌜ LaterKept m (now (names .entry)) (now (names .exit)) × LaterKept m (now (scores .entry)) (now (scores .exit)) ⌝ }
 {
-    let Record::Fields(index) = words::record_beside(fields, answer) else {
+    let Record::Fields(index) = words::record_beside(fields, answer, 1) else {
         return 13;
     };
     let found_keyed = search_keyed::search_keyed(
@@ -98,11 +109,11 @@ pub extern "C" fn vecq_search_keyed(
         names,
         scores,
     );
-    answer_words::put_found(found_keyed, answer)
+    put_found(found_keyed, answer)
 }
 
 #[no_mangle]
-pub extern "C" fn vecq_search_cascade(
+pub extern "C" fn vecq_raw_search_cascade(
     fields: &[u64],
     answer: &mut [u64],
     codes: &[u8],
@@ -128,7 +139,7 @@ pub extern "C" fn vecq_search_cascade(
     ensures { λ number. let m = hitCount (foundIn number (now (answer .exit))) in
         ⌜ LaterKept m (now (slots .entry)) (now (slots .exit)) × LaterKept m (now (scores .entry)) (now (scores .exit)) ⌝ }
 {
-    let Record::Fields(index) = words::record_beside(fields, answer) else {
+    let Record::Fields(index) = words::record_beside(fields, answer, 1) else {
         return 13;
     };
     let found_cascade = search_cascade::search_cascade(
@@ -147,5 +158,5 @@ pub extern "C" fn vecq_search_cascade(
         slots,
         scores,
     );
-    answer_words::put_found(found_cascade, answer)
+    put_found(found_cascade, answer)
 }

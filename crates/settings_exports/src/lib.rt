@@ -4,11 +4,11 @@ ghost use mathlib.Core.Path.{_≡_};
 ghost use mathlib.Core.List.{[]};
 ghost use Rattle.index.specs.Arrays.{lent};
 ghost use Rattle.index.specs.Step.{setBits, enable};
-ghost use Rattle.words.specs.Exports.{left, changes};
+ghost use Rattle.words.specs.Exports.{left, leftBy};
 use words::Record;
 
 #[no_mangle]
-pub extern "C" fn vecq_set_bits(
+pub extern "C" fn vecq_raw_set_bits(
     fields: &mut [u64],
     codes: &[u8],
     scales: &[u32],
@@ -21,7 +21,7 @@ pub extern "C" fn vecq_set_bits(
     bits: u8,
 ) -> u8
     ensures { λ r. let a = lent (codes .entry) (scales .entry) (keys .entry) (keyed .entry) (held .entry) (alive .entry) (codes2 .entry) (scales2 .entry) in
-        ⌜ left r (now (fields .exit)) [] a ≡ changes (setBits bits) (now (fields .entry)) a ⌝ }
+        ⌜ left r (now (fields .exit)) [] a ≡ leftBy 0 (setBits bits) (now (fields .entry)) [] a ⌝ }
 {
     let Record::Fields(index) = words::record_in(fields) else {
         return 13;
@@ -42,7 +42,7 @@ pub extern "C" fn vecq_set_bits(
 }
 
 #[no_mangle]
-pub extern "C" fn vecq_enable_cascade(
+pub extern "C" fn vecq_raw_enable_cascade(
     fields: &mut [u64],
     codes: &[u8],
     scales: &[u32],
@@ -54,7 +54,7 @@ pub extern "C" fn vecq_enable_cascade(
     scales2: &[u32],
 ) -> u8
     ensures { λ r. let a = lent (codes .entry) (scales .entry) (keys .entry) (keyed .entry) (held .entry) (alive .entry) (codes2 .entry) (scales2 .entry) in
-        ⌜ left r (now (fields .exit)) [] a ≡ changes enable (now (fields .entry)) a ⌝ }
+        ⌜ left r (now (fields .exit)) [] a ≡ leftBy 0 enable (now (fields .entry)) [] a ⌝ }
 {
     let Record::Fields(index) = words::record_in(fields) else {
         return 13;

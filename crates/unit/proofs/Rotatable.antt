@@ -1,4 +1,4 @@
--- The test `rotatable` of `specs/Calls.antt`, and what follows where it passes.
+-- The test `rotatable` of `padding`, and what follows where it passes.
 use mathlib.Core.Path.{_≡_, sym, _∙_}
 use mathlib.Core.Bool.{Bool, true, false, not, _&&_}
 use Prim.Native.Nat.{ℕ, _≤_}
@@ -8,7 +8,7 @@ use lib.Dec.{leb}
 use Rattle.lists.proofs.Tests.{both}
 use Rattle.padding.specs.Padded.{paddedDim}
 use Rattle.padding.proofs.Powers.{padded-least}
-use Rattle.unit.specs.Calls.{rotatable}
+use Rattle.padding.specs.Rotatable.{rotatable}
 
 -- a call that answers a test, after the test `!` of its answer
 pub says-no : {r t : Bool} → r ≡ t → not r ≡ true → t ≡ false

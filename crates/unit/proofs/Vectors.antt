@@ -20,7 +20,8 @@ use Rattle.rhdh.proofs.Applied.{rotated-length}
 use Rattle.vectors.specs.Vectors.{divided}
 use Rattle.vectors.proofs.Filling.{length-divided}
 use Rattle.unit.specs.Unit.{norm, unit, rotatedBy, rnorm, prepared}
-use Rattle.unit.specs.Calls.{rotatable, rotatedInto, query, preparedInto}
+use Rattle.padding.specs.Rotatable.{rotatable}
+use Rattle.unit.specs.Calls.{rotatedInto, query, preparedInto}
 use Rattle.unit.proofs.Rotatable.{Rotatable, is-rotatable, rotatable-of, padded-most}
 
 -- ---- the norm, and the entries over it

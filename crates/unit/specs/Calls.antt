@@ -1,18 +1,13 @@
 -- What the calls of this crate leave in the lent arrays, also where the sizes don't fit: there nothing is written, and the result is 0.
-use mathlib.Core.Bool.{Bool, cond, _&&_}
+use mathlib.Core.Bool.{cond}
 use mathlib.Core.List.{List}
 use Prim.Native.Nat.{ℕ}
-use lib.Dec.{leb}
 use lib.ListN.{length}
 use lib.Ieee.{Float}
 use Rattle.lists.specs.Lists.{over}
 use Rattle.pattern.specs.Binary32.{+0}
-use Rattle.padding.specs.Padded.{paddedDim}
+use Rattle.padding.specs.Rotatable.{rotatable}
 use Rattle.unit.specs.Unit.{rotatedBy, rnorm, prepared}
-
--- working_dim is from 1 to 4,096, the vector has so many entries, and the rotated one has its places
-unfoldable pub rotatable : (working entries places : ℕ) → Bool
-rotatable working entries places = leb 1 working && (leb working 4096 && (leb working entries && leb (paddedDim working) places))
 
 -- the rotated vector in the first places of `out`
 unfoldable pub rotatedInto : (working seed : ℕ) → (v out : List Float) → List Float

@@ -5,7 +5,8 @@ ghost use lib.ListN.{length};
 ghost use Rattle.padding.specs.Padded.{paddedDim};
 ghost use Rattle.rhdh.specs.Rotation.{applied};
 ghost use Rattle.unit.specs.Unit.{norm, unit, rotatedBy, rnorm, prepared};
-ghost use Rattle.unit.specs.Calls.{rotatable, rotatedInto, query, preparedInto};
+ghost use Rattle.padding.specs.Rotatable.{rotatable};
+ghost use Rattle.unit.specs.Calls.{rotatedInto, query, preparedInto};
 
 fn copy(xs: &[f32], out: &mut [f32])
     requires { ⌜ length (now out) ≡ length (now xs) ⌝ }
@@ -33,22 +34,6 @@ fn floats() -> [f32; 4096] {
     [0.0; 4096]
 }
 
-// Whether a vector of so many entries can be rotated into so many places.
-pub fn is_rotatable(working_dim: usize, entries: usize, places: usize) -> bool
-    ensures { λ r. ⌜ r ≡ rotatable «working_dim» entries places ⌝ }
-{
-    if working_dim < 1 {
-        return false;
-    }
-    if 4096 < working_dim {
-        return false;
-    }
-    if entries < working_dim {
-        return false;
-    }
-    padding::padded_dim(working_dim) <= places
-}
-
 // The working entries v, over their norm, padded and rotated.
 fn rotate_entries(v: &[f32], seed: u64, work: &mut [f32], out: &mut [f32])
     requires { ⌜ length (now work) ≡ length (now v) ⌝ }
@@ -63,7 +48,7 @@ fn rotate_entries(v: &[f32], seed: u64, work: &mut [f32], out: &mut [f32])
 pub fn rotate(working_dim: usize, seed: u64, v: &[f32], out: &mut [f32])
     ensures { λ _. ⌜ now (out .exit) ≡ rotatedInto «working_dim» seed (now (v .entry)) (now (out .entry)) ⌝ }
 {
-    if is_rotatable(working_dim, v.len(), out.len()) {
+    if padding::is_rotatable(working_dim, v.len(), out.len()) {
         let mut work = floats();
         rotate_entries(&v[0..working_dim], seed, &mut work[0..working_dim], out);
     }
@@ -84,7 +69,7 @@ fn prepare_whole(working_dim: usize, seed: u64, q: &[f32], out: &mut [f32]) -> f
 pub fn prepare(working_dim: usize, seed: u64, q: &[f32], out: &mut [f32]) -> f32
     ensures { λ r. ⌜ query r (now (out .exit)) ≡ preparedInto «working_dim» seed (now (q .entry)) (now (out .entry)) ⌝ }
 {
-    if !is_rotatable(working_dim, q.len(), out.len()) {
+    if !padding::is_rotatable(working_dim, q.len(), out.len()) {
         return 0.0;
     }
     let padded = padding::padded_dim(working_dim);

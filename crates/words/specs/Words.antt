@@ -3,7 +3,7 @@ use mathlib.Core.Bool.{Bool, cond, _&&_}
 use mathlib.Core.List.{List, [], _∷_}
 use Prim.Native.Nat.{ℕ}
 use lib.ListN.{length, getD}
-use lib.Dec.{leb, eqb}
+use lib.Dec.{leb, ltb, eqb}
 use Rattle.lists.specs.Keep.{bit}
 use Rattle.index.specs.declared.Index.{Index}
 use Rattle.words.specs.declared.Record.{Record}
@@ -37,6 +37,6 @@ typed b r c = leb b 255 && leb r 1 && leb c 1
 unfoldable pub recordIn : (words : List ℕ) → Record
 recordIn ws = cond (leb recordWords (length ws) && typed (getD ws 3 0) (getD ws 4 0) (getD ws 7 0)) (Record.Fields (fieldsIn ws)) Record.Misfit
 
--- of a call that answers a word: none also where there is no place for it
-unfoldable pub recordBeside : (words answer : List ℕ) → Record
-recordBeside ws answer = cond (eqb (length answer) 0) Record.Misfit (recordIn ws)
+-- of a call that answers so many words at most: none also where there are fewer places for them
+unfoldable pub recordBeside : (places : ℕ) → (words answer : List ℕ) → Record
+recordBeside p ws answer = cond (ltb (length answer) p) Record.Misfit (recordIn ws)

@@ -6,6 +6,9 @@ use index::Index;
 // How many words a record has.
 pub const RECORD_WORDS: usize = 8;
 
+// The number of the raw signatures: `abi` in specs/Exports.antt says when it is raised.
+pub const ABI: u64 = 1;
+
 // What the words of a record say.
 pub enum Record {
     Fields(Index),
@@ -40,11 +43,11 @@ pub fn record_in(fields: &[u64]) -> Record
     })
 }
 
-// The same for a call that answers a word, which needs a place.
-pub fn record_beside(fields: &[u64], answer: &[u64]) -> Record
-    ensures { λ r. ⌜ r ≡ Words.recordBeside (now (fields .entry)) (now (answer .entry)) ⌝ }
+// The same for a call that answers so many words at most, which need places.
+pub fn record_beside(fields: &[u64], answer: &[u64], places: usize) -> Record
+    ensures { λ r. ⌜ r ≡ Words.recordBeside places (now (fields .entry)) (now (answer .entry)) ⌝ }
 {
-    if answer.len() == 0 {
+    if answer.len() < places {
         return Record::Misfit;
     }
     record_in(fields)

@@ -335,7 +335,7 @@ pub fn to_bytes(
         file,
         form::version_of(index),
         index,
-        layout::block_size(index),
+        room::block_size(index),
         codes,
         scales,
         keys,

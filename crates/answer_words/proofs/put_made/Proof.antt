@@ -6,13 +6,13 @@ use Rattle.answer_words.proofs.put_made.Statement.{statement}
 use Rattle.answer_words.proofs.put_made.Tie as tie
 
 enum-known-made : tie.Need-enum-known-made
-enum-known-made c = search needs
+enum-known-made c = c .match .keys1
 
 put-record-requires : tie.Need-put-record-requires
 put-record-requires c κs = search needs
 
 same-length : tie.Need-same-length
-same-length c = search needs
+same-length c = c .before .before .put-record .kept .0
 
 returns : tie.Need-returns
 returns c =
@@ -20,7 +20,7 @@ returns c =
     (record-put _ _ (c .before .before .before .before .if1 .taken) (c .before .before .put-record .ensures))
 
 enum-known-made-2 : tie.Need-enum-known-made-2
-enum-known-made-2 c = search needs
+enum-known-made-2 c = c .match .keys2
 
 returns-2 : tie.Need-returns-2
 returns-2 c = rw (c .before .before .made .given .1) (record-short _ _ (omega (arith, c .if1 .left)))

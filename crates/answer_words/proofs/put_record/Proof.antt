@@ -1,8 +1,10 @@
 -- `answer_words::put_record` meets its contract.
 use native.Mathlib.Omega.{arith}
 use lib.ListN.{length-set}
+use lib.Seq.{sets-eq}
+use Rattle.lists.specs.Lists.{over}
+use Rattle.lists.proofs.Bits.{as-bit}
 use Rattle.words.specs.Words.{wordsOf}
-use Rattle.answer_words.proofs.Places.{sets-over}
 use borrow.Author.Needs.{needs}
 use Rattle.answer_words.proofs.put_record.Statement.{statement}
 use Rattle.answer_words.proofs.put_record.Tie as tie
@@ -22,8 +24,8 @@ cast-fields c = search needs
 slice-write-fields-4 : tie.Need-slice-write-fields-4
 slice-write-fields-4 c = simp length-set (omega arith)
 
-flag-requires : tie.Need-flag-requires
-flag-requires c κs = search needs
+cast-fields-2 : tie.Need-cast-fields-2
+cast-fields-2 c = tt
 
 slice-write-fields-5 : tie.Need-slice-write-fields-5
 slice-write-fields-5 c = simp length-set (omega arith)
@@ -34,8 +36,8 @@ slice-write-fields-6 c = simp length-set (omega arith)
 slice-write-fields-7 : tie.Need-slice-write-fields-7
 slice-write-fields-7 c = simp length-set (omega arith)
 
-flag-requires-2 : tie.Need-flag-requires-2
-flag-requires-2 c κs = search needs
+cast-fields-3 : tie.Need-cast-fields-3
+cast-fields-3 c = tt
 
 slice-write-fields-8 : tie.Need-slice-write-fields-8
 slice-write-fields-8 c = simp length-set (omega arith)
@@ -44,9 +46,11 @@ same-length : tie.Need-same-length
 same-length c = search needs
 
 returns : tie.Need-returns
-unfolding wordsOf
+unfolding wordsOf over
 returns c =
-    rw (← c .before .flag .ensures, ← c .flag2 .ensures) (sets-over _ _ (c .before .before .before .before .pre))
+    let start = c .before .before .before in
+    let index = start .args .index in
+    rw (as-bit (index .residual), as-bit (index .cascade)) (sets-eq (wordsOf index) (start .args .fields .now) 0 (start .pre))
 
 pub put-record-spec : {M : Type 1} → statement M
 put-record-spec =
@@ -57,11 +61,11 @@ put-record-spec =
     slice-write-fields-3
     cast-fields
     slice-write-fields-4
-    flag-requires
+    cast-fields-2
     slice-write-fields-5
     slice-write-fields-6
     slice-write-fields-7
-    flag-requires-2
+    cast-fields-3
     slice-write-fields-8
     same-length
     returns)

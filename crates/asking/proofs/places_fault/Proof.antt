@@ -1,19 +1,18 @@
 -- `asking::places_fault` meets its contract.
 use native.Mathlib.Omega.{arith}
 use Rattle.unit.proofs.Rotatable.{says-no, says-yes}
-use borrow.Author.Needs.{needs}
 use Rattle.asking.proofs.Faults.{places-misfit, places-short, places-enough}
 use Rattle.asking.proofs.places_fault.Statement.{statement}
 use Rattle.asking.proofs.places_fault.Tie as tie
 
 fits-requires : tie.Need-fits-requires
-fits-requires c κs = search needs
+fits-requires c κs = tt
 
 returns : tie.Need-returns
 returns c = places-misfit _ _ _ _ (says-no (c .before .fits2 .ensures) (c .if1 .taken))
 
 places-needed-requires : tie.Need-places-needed-requires
-places-needed-requires c κs = search needs
+places-needed-requires c κs = tt
 
 returns-2 : tie.Need-returns-2
 returns-2 c =

@@ -1,18 +1,17 @@
 -- `asking::search_fault` meets its contract.
 use mathlib.Core.Path.{sym, _∙_}
-use borrow.Author.Needs.{needs}
 use Rattle.asking.proofs.Faults.{search-places, search-query}
 use Rattle.asking.proofs.search_fault.Statement.{statement}
 use Rattle.asking.proofs.search_fault.Tie as tie
 
 places-fault-requires : tie.Need-places-fault-requires
-places-fault-requires c κs = search needs
+places-fault-requires c κs = tt
 
 returns : tie.Need-returns
 returns c = search-places _ _ _ _ _ _ (c .before .places-fault .ensures) (c .if1 .taken)
 
 query-fault-requires : tie.Need-query-fault-requires
-query-fault-requires c κs = search needs
+query-fault-requires c κs = tt
 
 returns-2 : tie.Need-returns-2
 returns-2 c = search-query _ _ _ _ _ _ (sym (c .before .before .if1 .left) ∙ c .before .before .before .places-fault .ensures) (c .query-fault .ensures)

@@ -2,8 +2,9 @@
 use Prim.Native.Nat.{_≤_, _<_, _-_}
 use native.Mathlib.Omega.{arith}
 use lib.ListN.{length}
+use Rattle.lists.proofs.Bits.{one-at-most}
 use Rattle.choose_slots.specs.Steps.{inRange}
-use Rattle.choose_slots.proofs.Counting.{one-at-most, Counted, counted-more, counted-below}
+use Rattle.choose_slots.proofs.Counting.{Counted, counted-more, counted-below}
 use Rattle.choose_slots.proofs.slot_after.Statement.{statement}
 use Rattle.choose_slots.proofs.slot_after.Tie as tie
 

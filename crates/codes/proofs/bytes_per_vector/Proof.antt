@@ -1,6 +1,5 @@
 -- `codes::bytes_per_vector` meets its contract.
 use native.Mathlib.Omega.{arith}
-use borrow.Author.Needs.{needs}
 use Rattle.codes.specs.Packing.{bytesPerVector}
 use Rattle.codes.specs.Writing.{atWidth}
 use Rattle.codes.proofs.Index.{Eights, eights}
@@ -15,7 +14,7 @@ parts : (c : tie.Else1) → Eights (c .before .before .args .bits) (c .before .b
 parts c = eights _ _ (width c .most)
 
 is-width-requires : tie.Need-is-width-requires
-is-width-requires c κs = search needs
+is-width-requires c κs = tt
 
 returns : tie.Need-returns
 unfolding atWidth

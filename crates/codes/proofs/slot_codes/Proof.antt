@@ -20,7 +20,7 @@ gone : (c : tie.Then1) → let a = c .before .before .before .args in leb (a .sl
 gone c = sym (c .before .has-block .ensures) ∙ not-true _ (c .if1 .taken)
 
 has-block-requires : tie.Need-has-block-requires
-has-block-requires c κs = search needs
+has-block-requires c κs = tt
 
 sub-result : tie.Need-sub-result
 sub-result c = search needs

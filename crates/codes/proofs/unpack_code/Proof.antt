@@ -12,7 +12,7 @@ width : (c : tie.Else1) → Width (c .before .before .before .args .bits)
 width c = a-width _ (c .before .is-width .ensures) (c .if1 .left)
 
 is-width-requires : tie.Need-is-width-requires
-is-width-requires c κs = search needs
+is-width-requires c κs = tt
 
 returns : tie.Need-returns
 unfolding atWidth
@@ -22,7 +22,7 @@ first-byte-requires : tie.Need-first-byte-requires
 first-byte-requires c κs = width c .most
 
 window-requires : tie.Need-window-requires
-window-requires c κs = search needs
+window-requires c κs = tt
 
 first-bit-requires : tie.Need-first-bit-requires
 first-bit-requires c κs = width (c .before .before) .most

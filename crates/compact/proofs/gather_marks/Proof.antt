@@ -16,7 +16,7 @@ restore-order-requires : tie.Need-restore-order-requires
 restore-order-requires c κs = tt
 
 mark-live-requires : tie.Need-mark-live-requires
-mark-live-requires c κs = search needs
+mark-live-requires c κs = tt
 
 same-length : tie.Need-same-length
 same-length c = c .before .before .before .before .before .before .before .before .before .before .before .before .before .before .before .before .before .gather-u64 .kept .0

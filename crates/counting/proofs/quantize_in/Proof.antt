@@ -1,7 +1,6 @@
 -- `counting::quantize_in` meets its contract: after i boundaries `code` is how many of them are below x.
 use Prim.Native.Nat.{_+_, _-_}
 use native.Mathlib.Omega.{arith}
-use borrow.Author.Needs.{needs}
 use denote.Ref.{now}
 use lib.ListN.{length}
 use Rattle.lloyd.proofs.Quantized.{quantized-le, Counting, counting-next, counting-all}
@@ -24,7 +23,7 @@ shared-slice-read-above : tie.Need-shared-slice-read-above Inv-loop μ-loop
 shared-slice-read-above c = omega arith
 
 above-requires : tie.Need-above-requires Inv-loop μ-loop
-above-requires c κs = search needs
+above-requires c κs = tt
 
 abbrev start : tie.After-above Inv-loop μ-loop → tie.Start Inv-loop μ-loop
 start c = c .before .before .before .before .before

@@ -11,10 +11,10 @@ use Rattle.dequantizer.proofs.dequantize.Statement.{statement}
 use Rattle.dequantizer.proofs.dequantize.Tie as tie
 
 centroids-requires : tie.Need-centroids-requires
-centroids-requires c κs = search needs
+centroids-requires c κs = tt
 
 levels-requires : tie.Need-levels-requires
-levels-requires c κs = search needs
+levels-requires c κs = tt
 
 sub-dequantize-in : tie.Need-sub-dequantize-in
 sub-dequantize-in c = search needs
@@ -30,7 +30,7 @@ part-dequantize-in-end c =
     lent-fits (centroidsOf bits) (t .result) (n .result) (t .ensures) (n .ensures ∙ sym (centroids-length bits))
 
 dequantize-in-requires : tie.Need-dequantize-in-requires
-dequantize-in-requires c κs = search needs
+dequantize-in-requires c κs = tt
 
 returns : tie.Need-returns
 returns c =

@@ -20,10 +20,10 @@ shared-slice-read-wide : tie.Need-shared-slice-read-wide
 shared-slice-read-wide c = search needs
 
 wide-requires : tie.Need-wide-requires
-wide-requires c κs = search needs
+wide-requires c κs = tt
 
 is-keyed-requires : tie.Need-is-keyed-requires
-is-keyed-requires c κs = search needs
+is-keyed-requires c κs = tt
 
 returns : tie.Need-returns
 returns c = rw (eq-eqb _ 0 (c .before .before .before .if1 .taken)) (rw (c .before .wide .ensures) at (c .is-keyed .ensures) ∙ sym (and-true _))

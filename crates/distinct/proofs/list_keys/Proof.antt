@@ -6,7 +6,7 @@ use Rattle.distinct.proofs.list_keys.Statement.{statement}
 use Rattle.distinct.proofs.list_keys.Tie as tie
 
 smaller-requires : tie.Need-smaller-requires
-smaller-requires c κs = search needs
+smaller-requires c κs = tt
 
 returns : tie.Need-returns
 returns c =

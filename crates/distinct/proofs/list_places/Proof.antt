@@ -6,7 +6,7 @@ use Rattle.distinct.proofs.list_places.Statement.{statement}
 use Rattle.distinct.proofs.list_places.Tie as tie
 
 room-requires : tie.Need-room-requires
-room-requires c κs = search needs
+room-requires c κs = tt
 
 sub-link : tie.Need-sub-link
 sub-link c = search needs
@@ -21,7 +21,7 @@ slice-aggregate-link : tie.Need-slice-aggregate-link
 slice-aggregate-link c = search needs
 
 link-requires : tie.Need-link-requires
-link-requires c κs = search needs
+link-requires c κs = tt
 
 slice-aggregate-write-firsts : tie.Need-slice-aggregate-write-firsts
 slice-aggregate-write-firsts c = search needs

@@ -15,10 +15,10 @@ shared-slice-read-wide : tie.Need-shared-slice-read-wide
 shared-slice-read-wide c = search needs
 
 wide-requires : tie.Need-wide-requires
-wide-requires c κs = search needs
+wide-requires c κs = tt
 
 key-word-requires : tie.Need-key-word-requires
-key-word-requires c κs = search needs
+key-word-requires c κs = tt
 
 mul-names : tie.Need-mul-names
 mul-names c = search needs

@@ -27,7 +27,7 @@ cast-dequantize-in : tie.Need-cast-dequantize-in Inv-loop μ-loop
 cast-dequantize-in c = omega (arith, c .shared-slice-known3 .given (c .before .before .loop .i))
 
 dequantize-in-requires : tie.Need-dequantize-in-requires Inv-loop μ-loop
-dequantize-in-requires c κs = search needs
+dequantize-in-requires c κs = tt
 
 mul-out : tie.Need-mul-out Inv-loop μ-loop
 mul-out c = search needs

@@ -13,16 +13,16 @@ use Rattle.encode.proofs.store_vector.Reads as store-vector-reads
 use Rattle.padding.proofs.padded_dim.Reads as padded-dim-reads
 
 is-encodable-requires : tie.Need-is-encodable-requires
-is-encodable-requires c κs = search needs
+is-encodable-requires c κs = tt
 
 returns : tie.Need-returns
 returns c = not-encoded _ _ _ _ _ _ _ (says-no (c .before .is-encodable .ensures) (c .if1 .taken))
 
 padded-dim-requires : tie.Need-padded-dim-requires
-padded-dim-requires c κs = search needs
+padded-dim-requires c κs = tt
 
 floats-requires : tie.Need-floats-requires
-floats-requires c κs = search needs
+floats-requires c κs = tt
 
 sub-store-vector : tie.Need-sub-store-vector
 sub-store-vector c = omega arith

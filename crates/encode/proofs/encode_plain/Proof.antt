@@ -5,7 +5,7 @@ use Rattle.encode.proofs.encode_plain.Statement.{statement}
 use Rattle.encode.proofs.encode_plain.Tie as tie
 
 bytes-requires : tie.Need-bytes-requires
-bytes-requires c κs = search needs
+bytes-requires c κs = tt
 
 sub-store-plain : tie.Need-sub-store-plain
 sub-store-plain c = search needs

@@ -5,13 +5,13 @@ use Rattle.encode.proofs.encode_residual.Statement.{statement}
 use Rattle.encode.proofs.encode_residual.Tie as tie
 
 floats-requires : tie.Need-floats-requires
-floats-requires c κs = search needs
+floats-requires c κs = tt
 
 floats-requires-2 : tie.Need-floats-requires-2
-floats-requires-2 c κs = search needs
+floats-requires-2 c κs = tt
 
 floats-requires-3 : tie.Need-floats-requires-3
-floats-requires-3 c κs = search needs
+floats-requires-3 c κs = tt
 
 sub-store-residual : tie.Need-sub-store-residual
 sub-store-residual c = omega arith

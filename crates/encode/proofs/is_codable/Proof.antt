@@ -22,7 +22,7 @@ returns-4 : tie.Need-returns-4
 returns-4 c = too-many-codes _ _ _ _ (c .before .before .before .if1 .left) (c .before .before .if2 .left) (c .before .if3 .left) (c .if4 .taken)
 
 bytes-per-vector-requires : tie.Need-bytes-per-vector-requires
-bytes-per-vector-requires c κs = search needs
+bytes-per-vector-requires c κs = tt
 
 returns-5 : tie.Need-returns-5
 returns-5 c = by-size _ _ _ _ (c .before .before .before .before .if1 .left) (c .before .before .before .if2 .left) (c .before .before .if3 .left) (c .before .if4 .left) _ (c .bytes-per-vector .ensures)

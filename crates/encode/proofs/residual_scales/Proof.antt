@@ -14,19 +14,19 @@ sum-up-requires : tie.Need-sum-up-requires
 sum-up-requires c κs = search needs
 
 sqrt-requires : tie.Need-sqrt-requires
-sqrt-requires c κs = search needs
+sqrt-requires c κs = tt
 
 at-least-floor-requires : tie.Need-at-least-floor-requires
-at-least-floor-requires c κs = search needs
+at-least-floor-requires c κs = tt
 
 sqrt-requires-2 : tie.Need-sqrt-requires-2
-sqrt-requires-2 c κs = search needs
+sqrt-requires-2 c κs = tt
 
 to-bits-requires : tie.Need-to-bits-requires
-to-bits-requires c κs = search needs
+to-bits-requires c κs = tt
 
 to-bits-requires-2 : tie.Need-to-bits-requires-2
-to-bits-requires-2 c κs = search needs
+to-bits-requires-2 c κs = tt
 
 returns : tie.Need-returns
 returns c =

@@ -1,5 +1,4 @@
 use Rattle.encode.proofs.Residual.{few-enough, root-mean-square-is}
-use borrow.Author.Needs.{needs}
 use Rattle.encode.proofs.root_mean_square.Statement.{statement}
 use Rattle.encode.proofs.root_mean_square.Tie as tie
 use Rattle.encode.proofs.root_mean_square.Reads as reads
@@ -9,16 +8,16 @@ use Rattle.vectors.proofs.sum_squares.Reads as sum-squares-reads
 use Rattle.sqrt.proofs.sqrt.Reads as sqrt-reads
 
 sum-squares-requires : tie.Need-sum-squares-requires
-sum-squares-requires c κs = search needs
+sum-squares-requires c κs = tt
 
 int-to-float-at-least-floor : tie.Need-int-to-float-at-least-floor
 int-to-float-at-least-floor c = few-enough _ (c .before .before .before .pre)
 
 at-least-floor-requires : tie.Need-at-least-floor-requires
-at-least-floor-requires c κs = search needs
+at-least-floor-requires c κs = tt
 
 sqrt-requires : tie.Need-sqrt-requires
-sqrt-requires c κs = search needs
+sqrt-requires c κs = tt
 
 returns : tie.Need-returns
 returns c = root-mean-square-is _ _ _ _ (c .before .before .before .sum-squares .ensures) (c .before .at-least-floor .ensures) (c .sqrt .ensures)

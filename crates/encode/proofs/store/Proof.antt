@@ -5,7 +5,7 @@ use Rattle.encode.proofs.store.Statement.{statement}
 use Rattle.encode.proofs.store.Tie as tie
 
 bytes-requires : tie.Need-bytes-requires
-bytes-requires c κs = search needs
+bytes-requires c κs = tt
 
 sub-store-fitting : tie.Need-sub-store-fitting
 sub-store-fitting c = search needs

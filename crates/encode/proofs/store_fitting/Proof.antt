@@ -8,14 +8,13 @@ use Rattle.encode.proofs.store_fitting.Tie as tie
 use Rattle.encode.proofs.store_fitting.Reads as reads
 use Rattle.encode.proofs.store_fitting.Lts as lts
 use Rattle.encode.proofs.decode.Reads as decode-reads
-use Rattle.encode.proofs.pack.Reads as pack-reads
 use Rattle.quantizer.proofs.quantize_summing.Reads as quantize-summing-reads
 
 quantize-summing-requires : tie.Need-quantize-summing-requires
-quantize-summing-requires c κs = search needs
+quantize-summing-requires c κs = tt
 
 pack-requires : tie.Need-pack-requires
-pack-requires c κs = search needs
+pack-requires c κs = tt
 
 decode-requires : tie.Need-decode-requires
 decode-requires c κs = search needs

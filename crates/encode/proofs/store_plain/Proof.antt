@@ -2,7 +2,6 @@ use native.Mathlib.Omega.{arith}
 use mathlib.Core.Path.{refl}
 use Rattle.encode.proofs.Fit.{fits-of}
 use Rattle.encode.proofs.OneStage.{codes-are, squares-are, block-is, plain-is}
-use borrow.Author.Needs.{needs}
 use Rattle.encode.proofs.store_plain.Statement.{statement}
 use Rattle.encode.proofs.store_plain.Tie as tie
 use Rattle.encode.proofs.store_plain.Reads as reads
@@ -10,19 +9,18 @@ use Rattle.encode.proofs.store_plain.Lts as lts
 use Rattle.quantizer.proofs.quantize_summing.Reads as quantize-summing-reads
 use Rattle.pattern.proofs.to_bits.Reads as to-bits-reads
 use Rattle.sqrt.proofs.sqrt.Reads as sqrt-reads
-use Rattle.encode.proofs.pack.Reads as pack-reads
 
 quantize-summing-requires : tie.Need-quantize-summing-requires
-quantize-summing-requires c κs = search needs
+quantize-summing-requires c κs = tt
 
 pack-requires : tie.Need-pack-requires
-pack-requires c κs = search needs
+pack-requires c κs = tt
 
 sqrt-requires : tie.Need-sqrt-requires
-sqrt-requires c κs = search needs
+sqrt-requires c κs = tt
 
 to-bits-requires : tie.Need-to-bits-requires
-to-bits-requires c κs = search needs
+to-bits-requires c κs = tt
 
 same-length : tie.Need-same-length
 same-length c = omega (arith, c .before .before .before .before .pack .kept, c .before .before .before .before .before .before .before .before .before .quantize-summing .kept)

@@ -2,7 +2,6 @@ use native.Mathlib.Omega.{arith}
 use mathlib.Core.Path.{refl}
 use Rattle.encode.proofs.Fit.{is-fit, codable-same, encodable-of}
 use Rattle.encode.proofs.Whole.{residual-vector, plain-vector}
-use borrow.Author.Needs.{needs}
 use Rattle.encode.proofs.store_vector.Statement.{statement}
 use Rattle.encode.proofs.store_vector.Tie as tie
 use Rattle.encode.proofs.store_vector.Reads as reads
@@ -12,7 +11,7 @@ use Rattle.encode.proofs.encode_residual.Reads as encode-residual-reads
 use Rattle.unit.proofs.rotate.Reads as rotate-reads
 
 rotate-requires : tie.Need-rotate-requires
-rotate-requires c κs = search needs
+rotate-requires c κs = tt
 
 encode-residual-requires : tie.Need-encode-residual-requires
 encode-residual-requires c κs =

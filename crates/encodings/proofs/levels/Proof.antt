@@ -7,7 +7,7 @@ use Rattle.encodings.proofs.levels.Statement.{statement}
 use Rattle.encodings.proofs.levels.Tie as tie
 
 levels-requires : tie.Need-levels-requires
-levels-requires c κs = search needs
+levels-requires c κs = tt
 
 returns : tie.Need-returns
 returns c = search needs

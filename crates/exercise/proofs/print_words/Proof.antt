@@ -12,13 +12,13 @@ abbrev μ-loop : tie.MeasureT-loop
 μ-loop out₀ name xs at₀ i₀ out at i = length xs - i
 
 put-name-requires : tie.Need-put-name-requires Inv-loop μ-loop
-put-name-requires c κs = search needs
+put-name-requires c κs = tt
 
 loop-holds : tie.Need-loop-holds Inv-loop μ-loop
 loop-holds c = search needs
 
 make-room-requires : tie.Need-make-room-requires Inv-loop μ-loop
-make-room-requires c κs = search needs
+make-room-requires c κs = tt
 
 mul-wide : tie.Need-mul-wide Inv-loop μ-loop
 mul-wide c = search needs
@@ -27,10 +27,10 @@ shared-slice-read-wide : tie.Need-shared-slice-read-wide Inv-loop μ-loop
 shared-slice-read-wide c = search needs
 
 wide-requires : tie.Need-wide-requires Inv-loop μ-loop
-wide-requires c κs = search needs
+wide-requires c κs = tt
 
 put-hex-requires : tie.Need-put-hex-requires Inv-loop μ-loop
-put-hex-requires c κs = search needs
+put-hex-requires c κs = tt
 
 add-i : tie.Need-add-i Inv-loop μ-loop
 add-i c = search needs
@@ -42,7 +42,7 @@ loop-again : tie.Need-loop-again Inv-loop μ-loop
 loop-again c = search needs
 
 flush-requires : tie.Need-flush-requires Inv-loop μ-loop
-flush-requires c κs = search needs
+flush-requires c κs = tt
 
 same-length : tie.Need-same-length Inv-loop μ-loop
 same-length c = search needs

@@ -12,10 +12,10 @@ abbrev μ-loop : tie.MeasureT-loop
 μ-loop out₀ at numbers scores n end next₀ i₀ out next i = end - i
 
 capped-requires : tie.Need-capped-requires Inv-loop μ-loop
-capped-requires c κs = search needs
+capped-requires c κs = tt
 
 capped-requires-2 : tie.Need-capped-requires-2 Inv-loop μ-loop
-capped-requires-2 c κs = search needs
+capped-requires-2 c κs = tt
 
 slice-aggregate-put-bytes : tie.Need-slice-aggregate-put-bytes Inv-loop μ-loop
 slice-aggregate-put-bytes c = search needs
@@ -39,7 +39,7 @@ shared-slice-read-put-hit-2 : tie.Need-shared-slice-read-put-hit-2 Inv-loop μ-l
 shared-slice-read-put-hit-2 c = search needs
 
 put-hit-requires : tie.Need-put-hit-requires Inv-loop μ-loop
-put-hit-requires c κs = search needs
+put-hit-requires c κs = tt
 
 add-i : tie.Need-add-i Inv-loop μ-loop
 add-i c = search needs

@@ -11,23 +11,20 @@ Inv-loop buf₀ out₀ state₀ buf out state = (length buf ≡ length buf₀) �
 abbrev μ-loop : tie.MeasureT-loop
 μ-loop buf₀ out₀ state₀ buf out state = state .cursor .left
 
-start-requires : tie.Need-start-requires Inv-loop μ-loop
-start-requires c κs = search needs
-
 next-line-requires : tie.Need-next-line-requires Inv-loop μ-loop
-next-line-requires c κs = search needs
+next-line-requires c κs = tt
 
 first-record-requires : tie.Need-first-record-requires Inv-loop μ-loop
-first-record-requires c κs = search needs
+first-record-requires c κs = tt
 
 no-lengths-requires : tie.Need-no-lengths-requires Inv-loop μ-loop
-no-lengths-requires c κs = search needs
+no-lengths-requires c κs = tt
 
 loop-holds : tie.Need-loop-holds Inv-loop μ-loop
 loop-holds c = search needs
 
 answer-with-fresh-requires : tie.Need-answer-with-fresh-requires Inv-loop μ-loop
-answer-with-fresh-requires c κs = search needs
+answer-with-fresh-requires c κs = tt
 
 loop-less : tie.Need-loop-less Inv-loop μ-loop
 loop-less c =
@@ -55,7 +52,6 @@ run-spec =
     (tie.spec
     Inv-loop
     μ-loop
-    start-requires
     next-line-requires
     first-record-requires
     no-lengths-requires

@@ -20,7 +20,7 @@ shared-slice-read-to-bits : tie.Need-shared-slice-read-to-bits Inv-loop μ-loop
 shared-slice-read-to-bits c = search needs
 
 to-bits-requires : tie.Need-to-bits-requires Inv-loop μ-loop
-to-bits-requires c κs = search needs
+to-bits-requires c κs = tt
 
 returns : tie.Need-returns Inv-loop μ-loop
 returns c = search needs

@@ -3,13 +3,13 @@ use Rattle.exercise.proofs.turn.Statement.{statement}
 use Rattle.exercise.proofs.turn.Tie as tie
 
 entries-requires : tie.Need-entries-requires
-entries-requires c κs = search needs
+entries-requires c κs = tt
 
 file-places-requires : tie.Need-file-places-requires
-file-places-requires c κs = search needs
+file-places-requires c κs = tt
 
 line-requires : tie.Need-line-requires
-line-requires c κs = search needs
+line-requires c κs = tt
 
 slice-aggregate-read-call : tie.Need-slice-aggregate-read-call
 slice-aggregate-read-call c = search needs
@@ -18,16 +18,16 @@ slice-aggregate-read-call-2 : tie.Need-slice-aggregate-read-call-2
 slice-aggregate-read-call-2 c = search needs
 
 read-call-requires : tie.Need-read-call-requires
-read-call-requires c κs = search needs
+read-call-requires c κs = tt
 
 lengths-after-requires : tie.Need-lengths-after-requires
-lengths-after-requires c κs = search needs
+lengths-after-requires c κs = tt
 
 capped-requires : tie.Need-capped-requires
-capped-requires c κs = search needs
+capped-requires c κs = tt
 
 capped-requires-2 : tie.Need-capped-requires-2
-capped-requires-2 c κs = search needs
+capped-requires-2 c κs = tt
 
 sub-query : tie.Need-sub-query
 sub-query c = search needs
@@ -48,16 +48,16 @@ part-change-end : tie.Need-part-change-end
 part-change-end c = search needs
 
 change-requires : tie.Need-change-requires
-change-requires c κs = search needs
+change-requires c κs = tt
 
 answer-requires : tie.Need-answer-requires
-answer-requires c κs = search needs
+answer-requires c κs = tt
 
 print-line-requires : tie.Need-print-line-requires
-print-line-requires c κs = search needs
+print-line-requires c κs = tt
 
 next-line-requires : tie.Need-next-line-requires
-next-line-requires c κs = search needs
+next-line-requires c κs = tt
 
 same-length : tie.Need-same-length
 same-length c = search needs

@@ -24,10 +24,10 @@ shared-slice-read-mark-fits : tie.Need-shared-slice-read-mark-fits Inv-loop μ-l
 shared-slice-read-mark-fits c = search needs
 
 live-mark-requires : tie.Need-live-mark-requires Inv-loop μ-loop
-live-mark-requires c κs = search needs
+live-mark-requires c κs = tt
 
 mark-fits-requires : tie.Need-mark-fits-requires Inv-loop μ-loop
-mark-fits-requires c κs = search needs
+mark-fits-requires c κs = tt
 
 add-i : tie.Need-add-i Inv-loop μ-loop
 add-i c = search needs

@@ -1,7 +1,6 @@
 -- `fit::fits` meets its contract.
 use mathlib.Core.Path.{sym, _∙_}
 use native.Mathlib.Omega.{arith}
-use borrow.Author.Needs.{needs}
 use Rattle.index.specs.Arrays.{Arrays, lent}
 use Rattle.index.specs.State.{headerOf}
 use Rattle.positions.proofs.Decides.{same, decides-false}
@@ -15,10 +14,10 @@ abbrev arrays : tie.Start → Arrays
 arrays s = lent (s .args .codes) (s .args .scales) (s .args .keys) (s .args .keyed) (s .args .held) (s .args .alive) (s .args .codes2) (s .args .scales2)
 
 fields-fit-requires : tie.Need-fields-fit-requires
-fields-fit-requires c κs = search needs
+fields-fit-requires c κs = tt
 
 capacity-requires : tie.Need-capacity-requires
-capacity-requires c κs = search needs
+capacity-requires c κs = tt
 
 returns : tie.Need-returns
 returns c =
@@ -35,7 +34,7 @@ marks-fit-requires c κs =
     (room .few, room .keyed, room .alive)
 
 positions-fit-requires : tie.Need-positions-fit-requires
-positions-fit-requires c κs = search needs
+positions-fit-requires c κs = tt
 
 returns-2 : tie.Need-returns-2
 returns-2 c =

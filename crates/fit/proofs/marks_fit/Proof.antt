@@ -31,7 +31,7 @@ part-each-fits-end-2 : tie.Need-part-each-fits-end-2
 part-each-fits-end-2 c = search needs
 
 each-fits-requires : tie.Need-each-fits-requires
-each-fits-requires c κs = search needs
+each-fits-requires c κs = tt
 
 sub-live-total : tie.Need-sub-live-total
 sub-live-total c = search needs

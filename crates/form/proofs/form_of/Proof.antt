@@ -1,14 +1,13 @@
 -- `form::form_of` meets its contract.
-use borrow.Author.Needs.{needs}
 use Rattle.index.specs.Form.{formOf}
 use Rattle.form.proofs.form_of.Statement.{statement}
 use Rattle.form.proofs.form_of.Tie as tie
 
 is-known-requires : tie.Need-is-known-requires
-is-known-requires c κs = search needs
+is-known-requires c κs = tt
 
 scale-size-requires : tie.Need-scale-size-requires
-scale-size-requires c κs = search needs
+scale-size-requires c κs = tt
 
 returns : tie.Need-returns
 unfolding formOf

@@ -2,7 +2,6 @@
 use mathlib.Core.List.{List}
 use mathlib.Core.Path.{sym, _∙_}
 use Prim.Native.Nat.{_-_, _*_}
-use borrow.Author.Needs.{needs}
 use native.Mathlib.Omega.{arith}
 use denote.Ref.{now}
 use lib.Ieee.{Float}
@@ -20,7 +19,7 @@ abbrev μ-loop : tie.MeasureT-loop
 μ-loop v₀ n h₀ v h = n - h
 
 padded-dim-requires : tie.Need-padded-dim-requires Inv-loop μ-loop
-padded-dim-requires c κs = search needs
+padded-dim-requires c κs = tt
 
 returns : tie.Need-returns Inv-loop μ-loop
 returns c = sym (fwht-other _ _ _ _ (λ k e. c .if1 .taken (c .before .padded-dim .ensures ∙ padded-pow _ k e (omega arith))))

@@ -1,15 +1,14 @@
 -- `header::dim_in` meets its contract.
 use mathlib.Core.Path.{ap, _∙_}
 use Rattle.index.specs.Read.{littleEndian}
-use borrow.Author.Needs.{needs}
 use Rattle.header.proofs.dim_in.Statement.{statement}
 use Rattle.header.proofs.dim_in.Tie as tie
 
 after-requires : tie.Need-after-requires
-after-requires c κs = search needs
+after-requires c κs = tt
 
 rd-u32-requires : tie.Need-rd-u32-requires
-rd-u32-requires c κs = search needs
+rd-u32-requires c κs = tt
 
 returns : tie.Need-returns
 returns c = c .rd-u32 .ensures ∙ ap (littleEndian 4) (c .before .after .ensures)

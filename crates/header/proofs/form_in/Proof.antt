@@ -1,15 +1,14 @@
 -- `header::form_in` meets its contract.
 use mathlib.Core.Path.{ap, _∙_}
 use Rattle.index.specs.Form.{formOf}
-use borrow.Author.Needs.{needs}
 use Rattle.header.proofs.form_in.Statement.{statement}
 use Rattle.header.proofs.form_in.Tie as tie
 
 version-in-requires : tie.Need-version-in-requires
-version-in-requires c κs = search needs
+version-in-requires c κs = tt
 
 form-of-requires : tie.Need-form-of-requires
-form-of-requires c κs = search needs
+form-of-requires c κs = tt
 
 returns : tie.Need-returns
 returns c = c .form-of .ensures ∙ ap formOf (c .before .version-in .ensures)

@@ -10,7 +10,6 @@ use Rattle.index.specs.Form.{stagesAt}
 use Rattle.index.specs.Step.{firstOf}
 use Rattle.index.specs.Read.{littleEndian, formIn, dimIn, workingField, headFault}
 use Rattle.header.specs.Head.{widthOf}
-use borrow.Author.Needs.{needs}
 use Rattle.header.proofs.head_fault.Statement.{statement}
 use Rattle.header.proofs.head_fault.Tie as tie
 
@@ -44,24 +43,24 @@ unfolding headFault firstOf littleEndian
 returns c = rw (lt-ltb (length (c .before .before .args .file .now)) 24 (c .if1 .taken))
 
 rd-u32-requires : tie.Need-rd-u32-requires
-rd-u32-requires c κs = search needs
+rd-u32-requires c κs = tt
 
 returns-2 : tie.Need-returns-2
 unfolding headFault firstOf littleEndian
 returns-2 c = rw (long (c .before .before), ne-eqb (littleEndian 4 (c .before .before .before .before .args .file .now)) 0x5143_4556 (λ e. c .if2 .taken (c .before .rd-u32 .ensures ∙ e)))
 
 form-in-requires : tie.Need-form-in-requires
-form-in-requires c κs = search needs
+form-in-requires c κs = tt
 
 returns-3 : tie.Need-returns-3
 unfolding headFault firstOf littleEndian
 returns-3 c = rw (long (c .before .before .before .before .before), named (c .before .before .before), version-unknown c)
 
 dim-in-requires : tie.Need-dim-in-requires
-dim-in-requires c κs = search needs
+dim-in-requires c κs = tt
 
 working-field-requires : tie.Need-working-field-requires
-working-field-requires c κs = search needs
+working-field-requires c κs = tt
 
 returns-4 : tie.Need-returns-4
 unfolding headFault firstOf littleEndian
@@ -70,7 +69,7 @@ returns-4 c =
     rw (long (c .before .before .before .before .before .before .before .before), named (c .before .before .before .before .before .before), version-known (c .before .before .before), lt-ltb (dimIn f) (workingField f) (omega (arith, c .if4 .taken, c .before .working-field .ensures, c .before .before .dim-in .ensures)))
 
 head-length-requires : tie.Need-head-length-requires
-head-length-requires c κs = search needs
+head-length-requires c κs = tt
 
 returns-5 : tie.Need-returns-5
 unfolding headFault firstOf littleEndian
@@ -79,10 +78,10 @@ returns-5 c =
     rw (long (c .before .before .before .before .before .before .before .before .before .before), named (c .before .before .before .before .before .before .before .before), version-known (c .before .before .before .before .before), working-low (c .before .before), lt-ltb (length f) (stagesAt (formIn f)) (rw (c .before .head-length .ensures, form-is (c .before .before .before .before .before .before .before)) at (c .if5 .taken)))
 
 width-in-requires : tie.Need-width-in-requires
-width-in-requires c κs = search needs
+width-in-requires c κs = tt
 
 is-width-requires : tie.Need-is-width-requires
-is-width-requires c κs = search needs
+is-width-requires c κs = tt
 
 returns-6 : tie.Need-returns-6
 unfolding headFault firstOf littleEndian

@@ -6,28 +6,28 @@ use Rattle.header.proofs.header_in.Statement.{statement}
 use Rattle.header.proofs.header_in.Tie as tie
 
 dim-in-requires : tie.Need-dim-in-requires
-dim-in-requires c κs = search needs
+dim-in-requires c κs = tt
 
 cast-t3 : tie.Need-cast-t3
 cast-t3 c = search needs
 
 working-in-requires : tie.Need-working-in-requires
-working-in-requires c κs = search needs
+working-in-requires c κs = tt
 
 cast-t5 : tie.Need-cast-t5
 cast-t5 c = search needs
 
 after-requires : tie.Need-after-requires
-after-requires c κs = search needs
+after-requires c κs = tt
 
 rd-u64-requires : tie.Need-rd-u64-requires
-rd-u64-requires c κs = search needs
+rd-u64-requires c κs = tt
 
 width-in-requires : tie.Need-width-in-requires
-width-in-requires c κs = search needs
+width-in-requires c κs = tt
 
 form-in-requires : tie.Need-form-in-requires
-form-in-requires c κs = search needs
+form-in-requires c κs = tt
 
 returns : tie.Need-returns
 unfolding headerIn

@@ -2,18 +2,17 @@
 use mathlib.Core.Path.{sym, ap, _∙_}
 use Rattle.index.specs.declared.Form.{Form}
 use Rattle.index.specs.Read.{littleEndian, headerIn}
-use borrow.Author.Needs.{needs}
 use Rattle.header.proofs.width_in.Statement.{statement}
 use Rattle.header.proofs.width_in.Tie as tie
 
 form-in-requires : tie.Need-form-in-requires
-form-in-requires c κs = search needs
+form-in-requires c κs = tt
 
 after-requires : tie.Need-after-requires
-after-requires c κs = search needs
+after-requires c κs = tt
 
 rd-u8-requires : tie.Need-rd-u8-requires
-rd-u8-requires c κs = search needs
+rd-u8-requires c κs = tt
 
 returns : tie.Need-returns
 unfolding headerIn

@@ -7,13 +7,13 @@ use Rattle.header.proofs.working_field.Statement.{statement}
 use Rattle.header.proofs.working_field.Tie as tie
 
 form-in-requires : tie.Need-form-in-requires
-form-in-requires c κs = search needs
+form-in-requires c κs = tt
 
 after-requires : tie.Need-after-requires
-after-requires c κs = search needs
+after-requires c κs = tt
 
 rd-u16-requires : tie.Need-rd-u16-requires
-rd-u16-requires c κs = search needs
+rd-u16-requires c κs = tt
 
 cast-result : tie.Need-cast-result
 cast-result c = search needs

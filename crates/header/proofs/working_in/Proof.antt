@@ -2,15 +2,14 @@
 use mathlib.Core.Path.{sym, _∙_}
 use borrow.Author.Tests.{eq-eqb, ne-eqb}
 use Rattle.index.specs.Read.{headerIn, workingField}
-use borrow.Author.Needs.{needs}
 use Rattle.header.proofs.working_in.Statement.{statement}
 use Rattle.header.proofs.working_in.Tie as tie
 
 working-field-requires : tie.Need-working-field-requires
-working-field-requires c κs = search needs
+working-field-requires c κs = tt
 
 dim-in-requires : tie.Need-dim-in-requires
-dim-in-requires c κs = search needs
+dim-in-requires c κs = tt
 
 returns : tie.Need-returns
 unfolding headerIn

@@ -24,7 +24,7 @@ loop-holds : tie.Need-loop-holds Inv-loop μ-loop
 loop-holds c = (omega arith, refl)
 
 has-key-requires : tie.Need-has-key-requires Inv-loop μ-loop
-has-key-requires c κs = search needs
+has-key-requires c κs = tt
 
 add-many : tie.Need-add-many Inv-loop μ-loop
 add-many c =

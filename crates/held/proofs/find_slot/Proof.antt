@@ -31,7 +31,7 @@ returns c =
     slot-end (s .args .keys .now) (s .args .keyed .now) (s .args .key) (last .i) (s .args .n) (c .if1 .taken) (last .inv .0) (s .args .held .now) (s .args .position) (last .inv .1)
 
 holds-position-requires : tie.Need-holds-position-requires Inv-loop μ-loop
-holds-position-requires c κs = search needs
+holds-position-requires c κs = tt
 
 returns-2 : tie.Need-returns-2 Inv-loop μ-loop
 returns-2 c =

@@ -7,7 +7,7 @@ use Rattle.held.proofs.held_count.Statement.{statement}
 use Rattle.held.proofs.held_count.Tie as tie
 
 lower-requires : tie.Need-lower-requires
-lower-requires c κs = search needs
+lower-requires c κs = tt
 
 sub-count-slots : tie.Need-sub-count-slots
 sub-count-slots c = search needs
@@ -28,7 +28,7 @@ part-count-slots-end-2 : tie.Need-part-count-slots-end-2
 part-count-slots-end-2 c = search needs
 
 count-slots-requires : tie.Need-count-slots-requires
-count-slots-requires c κs = search needs
+count-slots-requires c κs = tt
 
 returns : tie.Need-returns
 returns c =
@@ -38,7 +38,7 @@ returns c =
     ∙ count-within (s .args .keys .now) (s .args .keyed .now) (s .args .key) (s .args .n) (end .result) (end .ensures)
 
 count-slots-requires-2 : tie.Need-count-slots-requires-2
-count-slots-requires-2 c κs = search needs
+count-slots-requires-2 c κs = tt
 
 returns-2 : tie.Need-returns-2
 returns-2 c =

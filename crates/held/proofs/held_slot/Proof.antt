@@ -34,7 +34,7 @@ part-find-slot-end-3 : tie.Need-part-find-slot-end-3
 part-find-slot-end-3 c = search needs
 
 find-slot-requires : tie.Need-find-slot-requires
-find-slot-requires c κs = search needs
+find-slot-requires c κs = tt
 
 returns : tie.Need-returns
 returns c =
@@ -42,7 +42,7 @@ returns c =
     rw (sub-zero (s .args .n)) at (c .find-slot .ensures) ∙ front-slot (s .args .keys .now) (s .args .keyed .now) (s .args .n) (s .args .key) (s .args .held .now) (s .args .position)
 
 find-slot-requires-2 : tie.Need-find-slot-requires-2
-find-slot-requires-2 c κs = search needs
+find-slot-requires-2 c κs = tt
 
 returns-2 : tie.Need-returns-2
 returns-2 c = search needs

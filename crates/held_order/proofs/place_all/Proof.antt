@@ -2,7 +2,6 @@
 use Prim.Native.Nat.{_≤_, _-_}
 use native.Mathlib.Omega.{arith}
 use lib.ListN.{length}
-use borrow.Author.Needs.{needs}
 use Rattle.held_order.proofs.Positions.{Placing, placing-none, placing-more}
 use Rattle.held_order.proofs.place_all.Statement.{statement}
 use Rattle.held_order.proofs.place_all.Tie as tie
@@ -23,7 +22,7 @@ shared-slice-read-wide : tie.Need-shared-slice-read-wide Inv-loop μ-loop
 shared-slice-read-wide c = omega (arith, c .before .before .before .loop .inv .same, c .before .before .loop-test .taken, c .before .before .before .before .before .before .pre .0)
 
 wide-requires : tie.Need-wide-requires Inv-loop μ-loop
-wide-requires c κs = search needs
+wide-requires c κs = tt
 
 -- the entry is that of a slot below i
 entry-low : (c : tie.After-wide Inv-loop μ-loop) → c .wide .result ≤ c .before .before .before .before .loop .i

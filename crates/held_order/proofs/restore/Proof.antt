@@ -8,7 +8,7 @@ number-requires : tie.Need-number-requires
 number-requires c κs = c .before .before .before .before .before .pre .1
 
 link-requires : tie.Need-link-requires
-link-requires c κs = search needs
+link-requires c κs = tt
 
 place-all-requires : tie.Need-place-all-requires
 place-all-requires c κs = let s = c .before .before .before .before .before .before .before .before .before .before .before .before .before .before .before in (

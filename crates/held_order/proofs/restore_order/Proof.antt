@@ -10,7 +10,7 @@ returns : tie.Need-returns
 returns c = sym (too-few _ _ _ _ (c .if1 .taken))
 
 small-room-requires : tie.Need-small-room-requires
-small-room-requires c κs = search needs
+small-room-requires c κs = tt
 
 sub-restore : tie.Need-sub-restore
 sub-restore c = search needs
@@ -40,7 +40,7 @@ returns-2 : tie.Need-returns-2
 returns-2 c = in-part (c .before .before .before .before .before .before .before .before .before .before .before .before .args .keys .now) (c .before .before .before .before .before .before .before .before .before .before .before .before .args .keyed .now) (c .before .before .before .before .before .before .before .before .before .before .before .before .args .n) (c .before .before .before .before .before .before .before .before .before .before .before .before .args .held .now) (omega (arith, c .before .before .before .before .before .before .before .if2 .taken)) (c .before .before .before .before .before .before .before .before .if1 .left) (c .before .before .before .restore .ensures)
 
 room-requires : tie.Need-room-requires
-room-requires c κs = search needs
+room-requires c κs = tt
 
 sub-restore-3 : tie.Need-sub-restore-3
 sub-restore-3 c = search needs

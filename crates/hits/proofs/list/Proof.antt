@@ -1,7 +1,7 @@
 -- `hits::list` meets its contract.
 use borrow.Author.Needs.{needs}
 use native.Mathlib.Omega.{arith}
-use Prim.Native.Nat.{ℕ, _-_}
+use Prim.Native.Nat.{ℕ}
 use lib.Ieee.{Float}
 use denote.Ref.{now}
 use Rattle.index.specs.State.{headerOf}

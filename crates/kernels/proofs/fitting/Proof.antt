@@ -16,7 +16,7 @@ returns-3 : tie.Need-returns-3
 returns-3 c = other-table _ _ _ _ (c .before .before .if1 .left) (c .before .if2 .left) (c .if3 .taken)
 
 bytes-per-vector-requires : tie.Need-bytes-per-vector-requires
-bytes-per-vector-requires c κs = search needs
+bytes-per-vector-requires c κs = tt
 
 returns-4 : tie.Need-returns-4
 returns-4 c = by-length _ _ _ _ (c .before .before .before .if1 .left) (c .before .before .if2 .left) _ (c .before .if3 .left) (c .bytes-per-vector .ensures)

@@ -4,7 +4,7 @@ use Rattle.kernels.proofs.product.Statement.{statement}
 use Rattle.kernels.proofs.product.Tie as tie
 
 unpack-code-requires : tie.Need-unpack-code-requires
-unpack-code-requires c κs = search needs
+unpack-code-requires c κs = tt
 
 mul-result : tie.Need-mul-result
 mul-result c = search needs

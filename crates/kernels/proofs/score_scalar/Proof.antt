@@ -1,12 +1,11 @@
 use mathlib.Core.Path.{_∙_}
-use borrow.Author.Needs.{needs}
 use Rattle.kernels.proofs.Fits.{at-four, summed, misfit}
 use Rattle.kernels.proofs.Bytes.{byte-sums}
 use Rattle.kernels.proofs.score_scalar.Statement.{statement}
 use Rattle.kernels.proofs.score_scalar.Tie as tie
 
 fitting-requires : tie.Need-fitting-requires
-fitting-requires c κs = search needs
+fitting-requires c κs = tt
 
 returns : tie.Need-returns
 returns c = misfit _ _ _ _ _ _ (c .before .fitting .ensures) (c .if1 .taken)
@@ -15,7 +14,7 @@ byte-lanes-requires : tie.Need-byte-lanes-requires
 byte-lanes-requires c κs = at-four _ _ _ _ (c .before .fitting .ensures) (c .if1 .left)
 
 fold-eight-requires : tie.Need-fold-eight-requires
-fold-eight-requires c κs = search needs
+fold-eight-requires c κs = tt
 
 byte-tail-requires : tie.Need-byte-tail-requires
 byte-tail-requires c κs = at-four _ _ _ _ (c .before .before .before .fitting .ensures) (c .before .before .if1 .left)

@@ -2,7 +2,6 @@
 use mathlib.Core.Path.{sym, ap, _∙_}
 use mathlib.Core.Bool.{true, false}
 use lib.Dec.{ltb}
-use borrow.Author.Needs.{needs}
 use borrow.Author.Tests.{lt-ltb, le-ltb}
 use Rattle.held.proofs.Value.{is-held}
 use Rattle.keys.proofs.Questions.{misfits, fits, held-asked}
@@ -10,13 +9,13 @@ use Rattle.keys.proofs.contains_key.Statement.{statement}
 use Rattle.keys.proofs.contains_key.Tie as tie
 
 fits-requires : tie.Need-fits-requires
-fits-requires c κs = search needs
+fits-requires c κs = tt
 
 returns : tie.Need-returns
 returns c = misfits _ _ (c .before .fits2 .result) (c .before .fits2 .ensures) _ (c .if1 .taken)
 
 held-count-requires : tie.Need-held-count-requires
-held-count-requires c κs = search needs
+held-count-requires c κs = tt
 
 returns-2 : tie.Need-returns-2
 returns-2 c =

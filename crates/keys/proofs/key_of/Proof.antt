@@ -1,7 +1,6 @@
 -- `keys::key_of` meets its contract.
 use mathlib.Core.Path.{sym, ap, _∙_}
 use mathlib.Core.Option.{none, some}
-use borrow.Author.Needs.{needs}
 use Rattle.index.specs.Step.{keyAnswer}
 use Rattle.slot_keys.specs.Has.{keyAt}
 use Rattle.held.proofs.Value.{key-in, slot-past}
@@ -10,7 +9,7 @@ use Rattle.keys.proofs.key_of.Statement.{statement}
 use Rattle.keys.proofs.key_of.Tie as tie
 
 fits-requires : tie.Need-fits-requires
-fits-requires c κs = search needs
+fits-requires c κs = tt
 
 returns : tie.Need-returns
 returns c = misfits _ _ (c .before .fits2 .result) (c .before .fits2 .ensures) _ (c .if1 .taken)
@@ -22,10 +21,10 @@ returns-2 c =
     key-asked _ _ e _ none (ap keyAnswer (slot-past _ _ e _ (c .if2 .taken)))
 
 is-keyed-requires : tie.Need-is-keyed-requires
-is-keyed-requires c κs = search needs
+is-keyed-requires c κs = tt
 
 key-word-requires : tie.Need-key-word-requires
-key-word-requires c κs = search needs
+key-word-requires c κs = tt
 
 returns-3 : tie.Need-returns-3
 unfolding keyAt

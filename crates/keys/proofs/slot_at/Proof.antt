@@ -1,20 +1,19 @@
 -- `keys::slot_at` meets its contract.
 use mathlib.Core.Path.{sym, ap, _∙_}
 use mathlib.Core.Option.{none, some}
-use borrow.Author.Needs.{needs}
 use Rattle.held.proofs.Value.{slot-found, slot-missing}
 use Rattle.keys.proofs.Questions.{misfits, fits, slot-asked}
 use Rattle.keys.proofs.slot_at.Statement.{statement}
 use Rattle.keys.proofs.slot_at.Tie as tie
 
 fits-requires : tie.Need-fits-requires
-fits-requires c κs = search needs
+fits-requires c κs = tt
 
 returns : tie.Need-returns
 returns c = misfits _ _ (c .before .fits2 .result) (c .before .fits2 .ensures) _ (c .if1 .taken)
 
 held-slot-requires : tie.Need-held-slot-requires
-held-slot-requires c κs = search needs
+held-slot-requires c κs = tt
 
 returns-2 : tie.Need-returns-2
 returns-2 c =

@@ -2,12 +2,11 @@
 use mathlib.Core.Path.{_≡_, refl, sym, _∙_}
 use Prim.Native.Nat.{_-_, _≤_}
 use native.Mathlib.Omega.{arith}
-use borrow.Author.Needs.{needs}
 use Rattle.lists.specs.Keep.{count}
 use Rattle.lists.specs.Lists.{below}
+use Rattle.lists.proofs.Bits.{as-bit, one-at-most}
 use Rattle.marks.specs.Live.{liveAt}
 use Rattle.layout.specs.Counts.{entryAt, countsOf}
-use Rattle.layout.proofs.Numbers.{bit-low}
 use Rattle.layout.proofs.Counting.{count-one, count-few, counts-end}
 use Rattle.layout.proofs.count_slots.Statement.{statement}
 use Rattle.layout.proofs.count_slots.Tie as tie
@@ -22,27 +21,27 @@ loop-holds : tie.Need-loop-holds Inv-loop μ-loop
 loop-holds c = (omega arith, refl, refl)
 
 is-live-requires : tie.Need-is-live-requires Inv-loop μ-loop
-is-live-requires c κs = search needs
+is-live-requires c κs = tt
 
-one-if-requires : tie.Need-one-if-requires Inv-loop μ-loop
-one-if-requires c κs = search needs
+cast-live : tie.Need-cast-live Inv-loop μ-loop
+cast-live c = tt
 
 add-live : tie.Need-add-live Inv-loop μ-loop
 add-live c =
-    let v = c .before .before .before .before .loop .inv in
-    omega (arith, v .1, count-few (liveAt (c .before .before .before .before .before .before .before .args .alive .now)) (c .before .before .before .before .loop .i), c .one-if .ensures, bit-low (c .before .is-live .result))
+    let v = c .before .before .before .loop .inv in
+    omega (arith, v .1, count-few (liveAt (c .before .before .before .before .before .before .args .alive .now)) (c .before .before .before .loop .i), one-at-most (c .is-live .result))
 
 has-entry-requires : tie.Need-has-entry-requires Inv-loop μ-loop
-has-entry-requires c κs = search needs
+has-entry-requires c κs = tt
 
-one-if-requires-2 : tie.Need-one-if-requires-2 Inv-loop μ-loop
-one-if-requires-2 c κs = search needs
+cast-entries : tie.Need-cast-entries Inv-loop μ-loop
+cast-entries c = tt
 
 add-entries : tie.Need-add-entries Inv-loop μ-loop
 add-entries c =
-    let s = c .before .before .before .before .before .before .before .before .before in
-    let v = c .before .before .before .before .before .before .loop .inv in
-    omega (arith, v .2, count-few (entryAt (s .args .keyed .now) (s .args .alive .now)) (c .before .before .before .before .before .before .loop .i), c .one-if2 .ensures, bit-low (c .before .has-entry .result))
+    let s = c .before .before .before .before .before .before .before in
+    let v = c .before .before .before .before .loop .inv in
+    omega (arith, v .2, count-few (entryAt (s .args .keyed .now) (s .args .alive .now)) (c .before .before .before .before .loop .i), one-at-most (c .has-entry .result))
 
 add-i : tie.Need-add-i Inv-loop μ-loop
 add-i c = omega arith
@@ -52,12 +51,12 @@ loop-less c = omega arith
 
 loop-again : tie.Need-loop-again Inv-loop μ-loop
 loop-again c =
-    let s = c .before .before .before .before .before .before .before .before .before in
-    let v = c .before .before .before .before .before .before .loop .inv in
-    let i = c .before .before .before .before .before .before .loop .i in (
+    let s = c .before .before .before .before .before .before .before in
+    let v = c .before .before .before .before .loop .inv in
+    let i = c .before .before .before .before .loop .i in (
       omega arith,
-      rw (v .1, c .before .before .one-if .ensures, c .before .before .before .is-live .ensures) (sym (count-one (liveAt (s .args .alive .now)) i)),
-      rw (v .2, c .one-if2 .ensures, c .before .has-entry .ensures) (sym (count-one (entryAt (s .args .keyed .now) (s .args .alive .now)) i)),
+      rw (v .1, as-bit (c .before .is-live .result), c .before .is-live .ensures) (sym (count-one (liveAt (s .args .alive .now)) i)),
+      rw (v .2, as-bit (c .has-entry .result), c .has-entry .ensures) (sym (count-one (entryAt (s .args .keyed .now) (s .args .alive .now)) i)),
     )
 
 returns : tie.Need-returns Inv-loop μ-loop
@@ -82,10 +81,10 @@ count-slots-spec =
     μ-loop
     loop-holds
     is-live-requires
-    one-if-requires
+    cast-live
     add-live
     has-entry-requires
-    one-if-requires-2
+    cast-entries
     add-entries
     add-i
     loop-less

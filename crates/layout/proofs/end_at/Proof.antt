@@ -7,7 +7,7 @@ use Rattle.layout.proofs.end_at.Statement.{statement}
 use Rattle.layout.proofs.end_at.Tie as tie
 
 keys-at-requires : tie.Need-keys-at-requires
-keys-at-requires c κs = search needs
+keys-at-requires c κs = tt
 
 mul-result : tie.Need-mul-result
 mul-result c = search needs

@@ -1,6 +1,5 @@
 -- `layout::file_length` meets its contract.
 use mathlib.Core.Path.{sym, _∙_}
-use borrow.Author.Needs.{needs}
 use Rattle.index.specs.Step.{fileLength}
 use Rattle.index.proofs.Calls.{call-misfit}
 use Rattle.layout.proofs.Counting.{whole-block, low-block, low-counts, length-is, length-call}
@@ -8,16 +7,16 @@ use Rattle.layout.proofs.file_length.Statement.{statement}
 use Rattle.layout.proofs.file_length.Tie as tie
 
 fits-requires : tie.Need-fits-requires
-fits-requires c κs = search needs
+fits-requires c κs = tt
 
 count-slots-requires : tie.Need-count-slots-requires
-count-slots-requires c κs = search needs
+count-slots-requires c κs = tt
 
 version-of-requires : tie.Need-version-of-requires
-version-of-requires c κs = search needs
+version-of-requires c κs = tt
 
 block-size-requires : tie.Need-block-size-requires
-block-size-requires c κs = search needs
+block-size-requires c κs = tt
 
 length-of-requires : tie.Need-length-of-requires
 length-of-requires c κs =

@@ -2,15 +2,14 @@
 use mathlib.Core.Path.{sym, ap, _∙_}
 use mathlib.Core.Bool.{Bool, false, _&&_}
 use lib.ListN.{getD}
-use borrow.Author.Needs.{needs}
 use Rattle.layout.proofs.has_entry.Statement.{statement}
 use Rattle.layout.proofs.has_entry.Tie as tie
 
 is-live-requires : tie.Need-is-live-requires
-is-live-requires c κs = search needs
+is-live-requires c κs = tt
 
 is-keyed-requires : tie.Need-is-keyed-requires
-is-keyed-requires c κs = search needs
+is-keyed-requires c κs = tt
 
 returns : tie.Need-returns
 returns c = let on = sym (c .before .before .is-live .ensures) ∙ c .before .if1 .taken in c .is-keyed .ensures ∙ sym (ap (λ (b : Bool). b && getD (c .before .before .before .before .before .args .keyed .now) (c .before .before .before .before .before .args .slot) false) on)

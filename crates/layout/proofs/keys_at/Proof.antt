@@ -1,41 +1,41 @@
 -- `layout::keys_at` meets its contract.
 use native.Mathlib.Omega.{arith}
-use borrow.Author.Needs.{needs}
-use Rattle.layout.proofs.Numbers.{few-bytes, bit-low, with-second, without-second}
+use Rattle.lists.proofs.Bits.{as-bit, one-at-most}
+use Rattle.layout.proofs.Numbers.{few-bytes, with-second, without-second}
 use Rattle.layout.proofs.keys_at.Statement.{statement}
 use Rattle.layout.proofs.keys_at.Tie as tie
 
 stage-size-requires : tie.Need-stage-size-requires
-stage-size-requires c κs = search needs
+stage-size-requires c κs = tt
 
-one-if-requires : tie.Need-one-if-requires
-one-if-requires c κs = search needs
+cast-second : tie.Need-cast-second
+cast-second c = tt
 
 add-second : tie.Need-add-second
-add-second c = let a = c .before .before .args in omega (arith, c .one-if .ensures, bit-low (a .form .width))
+add-second c = omega (arith, one-at-most (c .before .before .args .form .width))
 
 add-second-2 : tie.Need-add-second-2
-add-second-2 c = let a = c .before .before .args in omega (arith, few-bytes (a .n) (a .form .scale) (a .block) (omega arith) (omega arith) (omega arith), c .before .stage-size .ensures, c .one-if .ensures, bit-low (a .form .width))
+add-second-2 c = let a = c .before .before .args in omega (arith, few-bytes (a .n) (a .form .scale) (a .block) (omega arith) (omega arith) (omega arith), c .before .stage-size .ensures, one-at-most (a .form .width))
 
 add-result : tie.Need-add-result
-add-result c = let a = c .before .before .before .args in omega (arith, few-bytes (a .n) (a .form .scale) (a .block) (omega arith) (omega arith) (omega arith), c .before .before .stage-size .ensures, c .before .one-if .ensures, bit-low (a .form .width))
+add-result c = let a = c .before .before .before .args in omega (arith, few-bytes (a .n) (a .form .scale) (a .block) (omega arith) (omega arith) (omega arith), c .before .before .stage-size .ensures, one-at-most (a .form .width))
 
 returns : tie.Need-returns
 returns c =
     let a = c .before .before .before .args in
-    rw (c .before .before .stage-size .ensures, c .before .one-if .ensures) (with-second (a .form) (a .block) (a .n) (c .if1 .taken))
+    rw (c .before .before .stage-size .ensures, as-bit (a .form .width)) (with-second (a .form) (a .block) (a .n) (c .if1 .taken))
 
 returns-2 : tie.Need-returns-2
 returns-2 c =
     let a = c .before .before .before .args in
-    rw (c .before .before .stage-size .ensures, c .before .one-if .ensures) (without-second (a .form) (a .block) (a .n) (c .if1 .left))
+    rw (c .before .before .stage-size .ensures, as-bit (a .form .width)) (without-second (a .form) (a .block) (a .n) (c .if1 .left))
 
 pub keys-at-spec : {M : Type 1} → statement M
 keys-at-spec =
     tie.close
     (tie.spec
     stage-size-requires
-    one-if-requires
+    cast-second
     add-second
     add-second-2
     add-result

@@ -5,7 +5,7 @@ use Rattle.layout.proofs.length_of.Statement.{statement}
 use Rattle.layout.proofs.length_of.Tie as tie
 
 form-of-requires : tie.Need-form-of-requires
-form-of-requires c κs = search needs
+form-of-requires c κs = tt
 
 cast-end-at : tie.Need-cast-end-at
 cast-end-at c = search needs
@@ -17,7 +17,7 @@ cast-end-at-3 : tie.Need-cast-end-at-3
 cast-end-at-3 c = search needs
 
 end-at-requires : tie.Need-end-at-requires
-end-at-requires c κs = search needs
+end-at-requires c κs = tt
 
 returns : tie.Need-returns
 returns c = c .end-at .ensures ∙ rw (c .before .before .before .form-of .ensures)

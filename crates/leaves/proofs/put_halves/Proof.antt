@@ -18,13 +18,13 @@ cast-f16-bits-to-f32 : tie.Need-cast-f16-bits-to-f32 Inv-loop μ-loop
 cast-f16-bits-to-f32 c = search needs
 
 f16-bits-to-f32-requires : tie.Need-f16-bits-to-f32-requires Inv-loop μ-loop
-f16-bits-to-f32-requires c κs = search needs
+f16-bits-to-f32-requires c κs = tt
 
 cast-put-hex : tie.Need-cast-put-hex Inv-loop μ-loop
 cast-put-hex c = search needs
 
 put-hex-requires : tie.Need-put-hex-requires Inv-loop μ-loop
-put-hex-requires c κs = search needs
+put-hex-requires c κs = tt
 
 add-h : tie.Need-add-h Inv-loop μ-loop
 add-h c = search needs

@@ -18,7 +18,7 @@ cast-put-narrows-of : tie.Need-cast-put-narrows-of Inv-loop μ-loop
 cast-put-narrows-of c = search needs
 
 put-narrows-of-requires : tie.Need-put-narrows-of-requires Inv-loop μ-loop
-put-narrows-of-requires c κs = search needs
+put-narrows-of-requires c κs = tt
 
 add-h : tie.Need-add-h Inv-loop μ-loop
 add-h c = search needs

@@ -12,19 +12,19 @@ abbrev μ-loop : tie.MeasureT-loop
 μ-loop out₀ seed n stream₀ at₀ i₀ out stream at i = n - i
 
 new-requires : tie.Need-new-requires Inv-loop μ-loop
-new-requires c κs = search needs
+new-requires c κs = tt
 
 loop-holds : tie.Need-loop-holds Inv-loop μ-loop
 loop-holds c = search needs
 
 next-sign-requires : tie.Need-next-sign-requires Inv-loop μ-loop
-next-sign-requires c κs = search needs
+next-sign-requires c κs = tt
 
 sign-byte-requires : tie.Need-sign-byte-requires Inv-loop μ-loop
-sign-byte-requires c κs = search needs
+sign-byte-requires c κs = tt
 
 put-byte-requires : tie.Need-put-byte-requires Inv-loop μ-loop
-put-byte-requires c κs = search needs
+put-byte-requires c κs = tt
 
 add-i : tie.Need-add-i Inv-loop μ-loop
 add-i c = search needs

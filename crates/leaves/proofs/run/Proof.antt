@@ -10,26 +10,23 @@ Inv-loop buf₀ out₀ cursor₀ buf out cursor = (length buf ≡ length buf₀)
 abbrev μ-loop : tie.MeasureT-loop
 μ-loop buf₀ out₀ cursor₀ buf out cursor = cursor .left
 
-start-requires : tie.Need-start-requires Inv-loop μ-loop
-start-requires c κs = search needs
-
 next-line-requires : tie.Need-next-line-requires Inv-loop μ-loop
-next-line-requires c κs = search needs
+next-line-requires c κs = tt
 
 loop-holds : tie.Need-loop-holds Inv-loop μ-loop
 loop-holds c = search needs
 
 line-requires : tie.Need-line-requires Inv-loop μ-loop
-line-requires c κs = search needs
+line-requires c κs = tt
 
 answer-requires : tie.Need-answer-requires Inv-loop μ-loop
-answer-requires c κs = search needs
+answer-requires c κs = tt
 
 print-line-requires : tie.Need-print-line-requires Inv-loop μ-loop
-print-line-requires c κs = search needs
+print-line-requires c κs = tt
 
 next-line-requires-2 : tie.Need-next-line-requires-2 Inv-loop μ-loop
-next-line-requires-2 c κs = search needs
+next-line-requires-2 c κs = tt
 
 loop-less : tie.Need-loop-less Inv-loop μ-loop
 loop-less c = search needs
@@ -52,7 +49,6 @@ run-spec =
     (tie.spec
     Inv-loop
     μ-loop
-    start-requires
     next-line-requires
     loop-holds
     line-requires

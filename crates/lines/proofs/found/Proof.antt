@@ -14,7 +14,7 @@ add-t8 : tie.Need-add-t8
 add-t8 c = search needs
 
 passed-over-requires : tie.Need-passed-over-requires
-passed-over-requires c κs = search needs
+passed-over-requires c κs = tt
 
 returns : tie.Need-returns
 returns c = over-handed _ _ _ _ (after (c .before .before .before)) (c .passed-over .ensures)

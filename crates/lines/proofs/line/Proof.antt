@@ -5,7 +5,7 @@ use Rattle.lines.proofs.line.Statement.{statement}
 use Rattle.lines.proofs.line.Tie as tie
 
 within-requires : tie.Need-within-requires
-within-requires c κs = search needs
+within-requires c κs = tt
 
 sub-result : tie.Need-sub-result
 sub-result c = search needs

@@ -2,7 +2,6 @@ use mathlib.Core.Path.{_≡_, refl}
 use Prim.Native.Nat.{_≤_, zero-le}
 use native.Mathlib.Nat.{le-antisymm, le-refl}
 use native.Mathlib.Omega.{arith}
-use borrow.Author.Needs.{needs}
 use lib.ListN.{length}
 use Rattle.lines.specs.Lines.{Within}
 use Rattle.lines.proofs.Cursors.{end-handed, handed-from}
@@ -17,7 +16,7 @@ abbrev μ-loop : tie.MeasureT-loop
 μ-loop buf₀ part₀ long₀ left₀ buf part long left = left
 
 within-requires : tie.Need-within-requires Inv-loop μ-loop
-within-requires c κs = search needs
+within-requires c κs = tt
 
 loop-holds : tie.Need-loop-holds Inv-loop μ-loop
 loop-holds c = (refl, c .within .ensures .1, le-refl _)
@@ -93,14 +92,14 @@ loop-again c =
       omega (arith, loop .inv .2),
     )
 
-at-rest-requires : tie.Need-at-rest-requires Inv-loop μ-loop
-at-rest-requires c κs = search needs
+at-end-requires : tie.Need-at-end-requires Inv-loop μ-loop
+at-end-requires c κs = tt
 
 same-length-3 : tie.Need-same-length-3 Inv-loop μ-loop
 same-length-3 c = c .before .before .loop .inv .0
 
 returns-3 : tie.Need-returns-3 Inv-loop μ-loop
-returns-3 c = end-handed _ _ _ (c .at-rest .ensures)
+returns-3 c = end-handed _ _ _ (c .at-end .ensures)
 
 pub next-line-spec : {M : Type 1} → statement M
 next-line-spec =
@@ -124,6 +123,6 @@ next-line-spec =
     add-t18
     loop-less
     loop-again
-    at-rest-requires
+    at-end-requires
     same-length-3
     returns-3)

@@ -4,18 +4,19 @@ use borrow.Author.Needs.{needs}
 use borrow.Author.Tests.{eq-eqb, ne-eqb}
 use lib.ListN.{drop}
 use Rattle.half.specs.Half.{narrowed}
+use Rattle.header.specs.declared.Head.{Head}
 use Rattle.index.specs.declared.Form.{Form}
 use Rattle.index.specs.Form.{formOf}
 use Rattle.index.specs.Read.{littleEndian, formIn}
-use Rattle.listing_text.specs.Listing.{halfIn}
+use Rattle.listed.specs.Listing.{halfIn}
 use Rattle.listing_text.proofs.half_of.Statement.{statement}
 use Rattle.listing_text.proofs.half_of.Tie as tie
 
 stages-in-requires : tie.Need-stages-in-requires
 stages-in-requires c κs = tt
 
-version-in-requires : tie.Need-version-in-requires
-version-in-requires c κs = tt
+head-in-requires : tie.Need-head-in-requires
+head-in-requires c κs = tt
 
 form-of-requires : tie.Need-form-of-requires
 form-of-requires c κs = tt
@@ -38,7 +39,7 @@ returns c =
     let args = c .before .before .before .before .before .before .before .before .before .args in
     let file = args .file .now in
     let part = c .before .before .after .ensures ∙ ap (drop (args .slot * 4)) (c .before .before .before .before .before .before .before .stages-in .ensures) in
-    let form = c .before .before .before .before .before .form-of .ensures ∙ ap formOf (c .before .before .before .before .before .before .version-in .ensures) in
+    let form = c .before .before .before .before .before .form-of .ensures ∙ ap (λ (h : Head). formOf (h .version)) (c .before .before .before .before .before .before .head-in .ensures) in
     rw (eq-eqb (formIn file .scale) 4 (sym (ap (λ (f : Form). f .scale) form) ∙ c .before .before .before .if1 .taken))
     (c .f32-to-f16-bits .ensures .equals ∙ ap narrowed (c .before .rd-u32 .ensures ∙ ap (littleEndian 4) part))
 
@@ -57,7 +58,7 @@ returns-2 c =
     let args = c .before .before .before .before .before .before .before .before .args in
     let file = args .file .now in
     let part = c .before .after2 .ensures ∙ ap (drop (args .slot * 2)) (c .before .before .before .before .before .before .stages-in .ensures) in
-    let form = c .before .before .before .before .form-of .ensures ∙ ap formOf (c .before .before .before .before .before .version-in .ensures) in
+    let form = c .before .before .before .before .form-of .ensures ∙ ap (λ (h : Head). formOf (h .version)) (c .before .before .before .before .before .head-in .ensures) in
     rw (ne-eqb (formIn file .scale) 4 (λ e. c .before .before .if1 .left (ap (λ (f : Form). f .scale) form ∙ e)))
     (c .rd-u16 .ensures ∙ ap (littleEndian 2) part)
 
@@ -66,7 +67,7 @@ half-of-spec =
     tie.close
     (tie.spec
     stages-in-requires
-    version-in-requires
+    head-in-requires
     form-of-requires
     mul-after
     after-requires

@@ -2,7 +2,7 @@ use mathlib.Core.Path.{sym, ap, _∙_}
 use mathlib.Core.List.{[], _∷_}
 use Prim.Native.Nat.{ℕ}
 use Rattle.index.specs.Step.{firstOf}
-use Rattle.listing_text.proofs.Text.{first-found}
+use Rattle.listed.proofs.Refusal.{first-found}
 use Rattle.listing_text.proofs.long_refusal.Statement.{statement}
 use Rattle.listing_text.proofs.long_refusal.Tie as tie
 

@@ -1,16 +1,14 @@
-use mathlib.Core.Path.{_∙_}
+use mathlib.Core.Path.{ap, _∙_}
 use borrow.Author.Needs.{needs}
 use Rattle.print.proofs.Places.{put-then}
-use Rattle.listing_text.specs.Listing.{headLine}
+use Rattle.header.specs.declared.Head.{Head}
+use Rattle.listed.specs.Listing.{headLine}
 use Rattle.listing_text.proofs.Lines.{put-head}
 use Rattle.listing_text.proofs.put_head.Statement.{statement}
 use Rattle.listing_text.proofs.put_head.Tie as tie
 
-header-in-requires : tie.Need-header-in-requires
-header-in-requires c κs = tt
-
-version-in-requires : tie.Need-version-in-requires
-version-in-requires c κs = tt
+head-in-requires : tie.Need-head-in-requires
+head-in-requires c κs = tt
 
 cast-put-decimal : tie.Need-cast-put-decimal
 cast-put-decimal c = search needs
@@ -30,9 +28,6 @@ cast-put-next c = search needs
 put-next-requires-3 : tie.Need-put-next-requires-3
 put-next-requires-3 c κs = tt
 
-count-in-requires : tie.Need-count-in-requires
-count-in-requires c κs = tt
-
 cast-put-next-2 : tie.Need-cast-put-next-2
 cast-put-next-2 c = search needs
 
@@ -48,7 +43,8 @@ same-length c = c .before .before .put-byte .kept .0 ∙ c .before .before .befo
 returns : tie.Need-returns
 unfolding headLine
 returns c =
-    put-head _ _ _ _ _ _ _ _ _ _ (c .before .before .before .before .before .before .before .before .before .before .before .before .before .before .before .before .before .before .before .before .before .before .before .before .before .version-in .ensures) (c .before .before .before .before .before .before .before .before .before .before .before .before .before .before .before .before .before .before .before .before .before .before .before .before .before .before .before .header-in .ensures) (c .before .before .before .before .before .before .before .count-in .ensures)
+    let head = c .before .before .before .before .before .before .before .before .before .before .before .before .before .before .before .before .before .before .before .before .before .before .before .before .before .before .before .before .head-in .ensures in
+    put-head _ _ _ _ _ _ _ _ _ _ (ap (λ (h : Head). h .version) head) (ap (λ (h : Head). h .header) head) (ap (λ (h : Head). h .count) head)
     (put-then _ _ _ _ _ _ _ _
     (put-then _ _ _ _ _ _ _ _
     (put-then _ _ _ _ _ _ _ _
@@ -63,15 +59,13 @@ pub put-head-spec : {M : Type 1} → statement M
 put-head-spec =
     tie.close
     (tie.spec
-    header-in-requires
-    version-in-requires
+    head-in-requires
     cast-put-decimal
     put-decimal-requires
     put-next-requires
     put-next-requires-2
     cast-put-next
     put-next-requires-3
-    count-in-requires
     cast-put-next-2
     put-next-requires-4
     put-byte-requires

@@ -1,6 +1,6 @@
 use mathlib.Core.Path.{_∙_}
 use Rattle.print.proofs.Places.{put-then}
-use Rattle.listing_text.specs.Listing.{slotLine}
+use Rattle.listed.specs.Listing.{slotLine}
 use Rattle.listing_text.proofs.put_slot.Statement.{statement}
 use Rattle.listing_text.proofs.put_slot.Tie as tie
 

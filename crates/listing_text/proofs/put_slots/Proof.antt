@@ -3,8 +3,9 @@ use mathlib.Core.Bool.{Bool}
 use mathlib.Core.List.{List}
 use Prim.Native.Nat.{ℕ, _-_}
 use borrow.Author.Needs.{needs}
+use Rattle.header.specs.declared.Head.{Head}
 use Rattle.slot_keys.specs.Has.{keyAt}
-use Rattle.listing_text.specs.Listing.{slotLine, halfIn}
+use Rattle.listed.specs.Listing.{slotLine, halfIn}
 use Rattle.listing_text.proofs.Lines.{Lines, lines-none, lines-more, lines-all, same-long}
 use Rattle.listing_text.proofs.put_slots.Statement.{statement}
 use Rattle.listing_text.proofs.put_slots.Tie as tie
@@ -18,8 +19,8 @@ Inv-loop out₀ at keys keyed file n next₀ slot₀ out next slot = Lines (line
 abbrev μ-loop : tie.MeasureT-loop
 μ-loop out₀ at keys keyed file n next₀ slot₀ out next slot = n - slot
 
-count-in-requires : tie.Need-count-in-requires Inv-loop μ-loop
-count-in-requires c κs = tt
+head-in-requires : tie.Need-head-in-requires Inv-loop μ-loop
+head-in-requires c κs = tt
 
 loop-holds : tie.Need-loop-holds Inv-loop μ-loop
 loop-holds c = lines-none _ _ _ _ (c .before .before .before .before .before .pre)
@@ -49,7 +50,7 @@ same-length c = same-long _ _ _ _ _ _ _ (c .before .loop .inv)
 returns : tie.Need-returns Inv-loop μ-loop
 returns c =
     let args = c .before .before .before .before .before .before .before .args in
-    lines-all (lineOf (args .keys .now) (args .keyed .now) (args .file .now)) _ _ _ _ _ _ _ (c .before .before .count-in .ensures) (c .loop-test .left) (c .before .loop .inv)
+    lines-all (lineOf (args .keys .now) (args .keyed .now) (args .file .now)) _ _ _ _ _ _ _ (ap (λ (h : Head). h .count) (c .before .before .head-in .ensures)) (c .loop-test .left) (c .before .loop .inv)
 
 pub put-slots-spec : {M : Type 1} → statement M
 put-slots-spec =
@@ -57,7 +58,7 @@ put-slots-spec =
     (tie.spec
     Inv-loop
     μ-loop
-    count-in-requires
+    head-in-requires
     loop-holds
     half-of-requires
     put-slot-requires

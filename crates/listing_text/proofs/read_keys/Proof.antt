@@ -1,6 +1,7 @@
 use native.Mathlib.Omega.{arith}
 use borrow.Author.Needs.{needs}
-use Rattle.listing_text.proofs.Reading.{as-large, read-as}
+use Rattle.listed.proofs.Room.{as-large}
+use Rattle.listing_text.proofs.Reading.{read-as}
 use Rattle.listing_text.proofs.read_keys.Statement.{statement}
 use Rattle.listing_text.proofs.read_keys.Tie as tie
 

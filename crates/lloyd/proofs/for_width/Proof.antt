@@ -17,7 +17,7 @@ in-64-places-requires-3 : tie.Need-in-64-places-requires-3
 in-64-places-requires-3 c κs = search needs
 
 zeros-requires : tie.Need-zeros-requires
-zeros-requires c κs = search needs
+zeros-requires c κs = tt
 
 returns : tie.Need-returns
 unfolding byWidth

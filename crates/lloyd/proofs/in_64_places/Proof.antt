@@ -18,7 +18,7 @@ abbrev μ-loop : tie.MeasureT-loop
 μ-loop table places₀ i₀ places i = length table - i
 
 zeros-requires : tie.Need-zeros-requires Inv-loop μ-loop
-zeros-requires c κs = search needs
+zeros-requires c κs = tt
 
 loop-holds : tie.Need-loop-holds Inv-loop μ-loop
 loop-holds c = (search needs, c .zeros .ensures)

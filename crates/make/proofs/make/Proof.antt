@@ -1,19 +1,18 @@
 -- `make::make` meets its contract.
 use mathlib.Core.Path.{sym, _∙_}
-use borrow.Author.Needs.{needs}
 use Rattle.unit.proofs.Rotatable.{says-no, says-yes}
 use Rattle.make.proofs.Making.{make-4, make-13, make-accepted, fresh-made, fresh-room}
 use Rattle.make.proofs.make.Statement.{statement}
 use Rattle.make.proofs.make.Tie as tie
 
 default-bits-requires : tie.Need-default-bits-requires
-default-bits-requires c κs = search needs
+default-bits-requires c κs = tt
 
 capacity-requires : tie.Need-capacity-requires
-capacity-requires c κs = search needs
+capacity-requires c κs = tt
 
 dims-fit-requires : tie.Need-dims-fit-requires
-dims-fit-requires c κs = search needs
+dims-fit-requires c κs = tt
 
 returns : tie.Need-returns
 returns c = sym (make-4 _ _ (says-no (c .before .dims-fit .ensures) (c .if1 .taken)))

@@ -22,13 +22,13 @@ abbrev μ-loop : tie.MeasureT-loop
 μ-loop distances r counts nearer₀ d₀ nearer d = 12289 - d
 
 counters-requires : tie.Need-counters-requires Inv-loop μ-loop
-counters-requires c κs = search needs
+counters-requires c κs = tt
 
 slice-aggregate-clear : tie.Need-slice-aggregate-clear Inv-loop μ-loop
 slice-aggregate-clear c = search needs
 
 clear-requires : tie.Need-clear-requires Inv-loop μ-loop
-clear-requires c κs = search needs
+clear-requires c κs = tt
 
 slice-aggregate-tally : tie.Need-slice-aggregate-tally Inv-loop μ-loop
 slice-aggregate-tally c = omega (arith, c .before .before .clear .kept, c .before .before .before .before .counters .ok)

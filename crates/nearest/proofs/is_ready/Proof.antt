@@ -1,7 +1,6 @@
 -- `nearest::is_ready` meets its contract.
 use borrow.Author.Tests.{lt-leb, le-leb, ne-eqb}
 use Rattle.nearest.specs.Nearest.{cascadable}
-use borrow.Author.Needs.{needs}
 use Rattle.nearest.proofs.is_ready.Statement.{statement}
 use Rattle.nearest.proofs.is_ready.Tie as tie
 
@@ -18,7 +17,7 @@ unfolding cascadable
 returns-3 c = rw (le-leb _ _ (c .before .before .if1 .left), le-leb _ _ (c .before .if2 .left), ne-eqb _ 4 (c .if3 .taken))
 
 is-rotatable-requires : tie.Need-is-rotatable-requires
-is-rotatable-requires c κs = search needs
+is-rotatable-requires c κs = tt
 
 returns-4 : tie.Need-returns-4
 unfolding cascadable

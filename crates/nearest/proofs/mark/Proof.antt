@@ -4,9 +4,9 @@ use Prim.Native.Nat.{_-_}
 use native.Mathlib.Omega.{arith}
 use lib.Dec.{eqb}
 use lib.ListN.{length, getD}
-use borrow.Author.Needs.{needs}
 use Rattle.lists.proofs.Writing.{written-none, written-all}
-use Rattle.nearest.proofs.Counting.{byte-low, level-none, level-few, Marking, marking-more}
+use Rattle.lists.proofs.Bits.{one-at-most}
+use Rattle.nearest.proofs.Counting.{level-none, level-few, Marking, marking-more}
 use Rattle.nearest.proofs.mark.Statement.{statement}
 use Rattle.nearest.proofs.mark.Tie as tie
 
@@ -26,7 +26,7 @@ shared-slice-read-d : tie.Need-shared-slice-read-d Inv-loop μ-loop
 shared-slice-read-d c = omega arith
 
 is-marked-requires : tie.Need-is-marked-requires Inv-loop μ-loop
-is-marked-requires c κs = search needs
+is-marked-requires c κs = tt
 
 cast-marks : tie.Need-cast-marks Inv-loop μ-loop
 cast-marks c = tt
@@ -45,7 +45,7 @@ add-seen c =
       arith,
       m .inv .ties-seen,
       level-few (s .args .distances .now) (s .args .limit) (m .i),
-      byte-low (eqb (getD (s .args .distances .now) (m .i) 0) (s .args .limit)),
+      one-at-most (eqb (getD (s .args .distances .now) (m .i) 0) (s .args .limit)),
       c .before .before .loop-test .taken,
     )
 

@@ -30,7 +30,7 @@ lent-at m =
     lent _ _ _ _ _ (is-ready m) (places .result) _ (omega (arith, places .ok)) (m .live-distances .ensures)
 
 is-ready-requires : tie.Need-is-ready-requires
-is-ready-requires c κs = search needs
+is-ready-requires c κs = tt
 
 places-requires : tie.Need-places-requires
 places-requires c κs = search needs

@@ -6,7 +6,7 @@ use Rattle.numerals.proofs.put_decimal.Statement.{statement}
 use Rattle.numerals.proofs.put_decimal.Tie as tie
 
 decimal-requires : tie.Need-decimal-requires
-decimal-requires c κs = search needs
+decimal-requires c κs = tt
 
 array-share-prefix-digits : tie.Need-array-share-prefix-digits
 array-share-prefix-digits c = search needs

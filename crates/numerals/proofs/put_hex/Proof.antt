@@ -6,7 +6,7 @@ use Rattle.numerals.proofs.put_hex.Statement.{statement}
 use Rattle.numerals.proofs.put_hex.Tie as tie
 
 hex-requires : tie.Need-hex-requires
-hex-requires c κs = search needs
+hex-requires c κs = tt
 
 array-share-prefix-digits : tie.Need-array-share-prefix-digits
 array-share-prefix-digits c = search needs

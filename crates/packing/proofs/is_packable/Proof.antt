@@ -1,6 +1,5 @@
 -- `packing::is_packable` meets its contract.
 use mathlib.Core.Path.{_≡_, sym, _∙_}
-use borrow.Author.Needs.{needs}
 use borrow.Author.Tests.{eq-eqb, ne-eqb}
 use lib.ListN.{length}
 use Rattle.codes.specs.Packing.{bytesPerVector}
@@ -17,14 +16,14 @@ count : (c : tie.After-bytes-per-vector) → let a = c .before .before .before .
 count c = c .bytes-per-vector .ensures ∙ at-width _ (width (c .before))
 
 is-width-requires : tie.Need-is-width-requires
-is-width-requires c κs = search needs
+is-width-requires c κs = tt
 
 returns : tie.Need-returns
 unfolding packable
 returns c = rw (no-width (c .before .before .before .args .bits) (c .before .is-width .ensures) (c .if1 .taken))
 
 bytes-per-vector-requires : tie.Need-bytes-per-vector-requires
-bytes-per-vector-requires c κs = search needs
+bytes-per-vector-requires c κs = tt
 
 returns-2 : tie.Need-returns-2
 unfolding packable

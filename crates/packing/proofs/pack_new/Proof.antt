@@ -18,10 +18,10 @@ ok : (c : tie.Then1) → let a = c .before .before .before .before .args in Pack
 ok c = packable-of _ _ _ (yes c)
 
 is-packable-requires : tie.Need-is-packable-requires
-is-packable-requires c κs = search needs
+is-packable-requires c κs = tt
 
 clear-last-requires : tie.Need-clear-last-requires
-clear-last-requires c κs = search needs
+clear-last-requires c κs = tt
 
 put-codes-requires : tie.Need-put-codes-requires
 put-codes-requires c κs = rw (c .before .before .before .clear-last .kept .0) (yes (c .before .before .before .before .before))

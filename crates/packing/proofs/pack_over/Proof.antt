@@ -15,7 +15,7 @@ ok : (c : tie.Then1) → let a = c .before .before .before .before .args in Pack
 ok c = packable-of _ _ _ (yes c)
 
 is-packable-requires : tie.Need-is-packable-requires
-is-packable-requires c κs = search needs
+is-packable-requires c κs = tt
 
 put-codes-requires : tie.Need-put-codes-requires
 put-codes-requires c κs = yes (c .before)

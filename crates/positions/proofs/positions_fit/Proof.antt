@@ -1,13 +1,12 @@
 -- `positions::positions_fit` meets its contract.
 use mathlib.Core.Path.{sym}
-use borrow.Author.Needs.{needs}
 use Rattle.positions.proofs.Decides.{decides-true, decides-false, decides-beside, same}
 use Rattle.positions.proofs.Slots.{positions-meaning}
 use Rattle.positions.proofs.positions_fit.Statement.{statement}
 use Rattle.positions.proofs.positions_fit.Tie as tie
 
 has-room-requires : tie.Need-has-room-requires
-has-room-requires c κs = search needs
+has-room-requires c κs = tt
 
 plain-requires : tie.Need-plain-requires
 plain-requires c κs = c .before .has-room .ensures .yes (c .if1 .taken)

@@ -3,7 +3,7 @@ use Rattle.print.proofs.print_line.Statement.{statement}
 use Rattle.print.proofs.print_line.Tie as tie
 
 put-byte-requires : tie.Need-put-byte-requires
-put-byte-requires c κs = search needs
+put-byte-requires c κs = tt
 
 sub-write-all : tie.Need-sub-write-all
 sub-write-all c = search needs

@@ -1,7 +1,6 @@
 -- `quantizer::halving_from` meets its contract: x's code lies between `code` and `code + left`, and each comparison halves that.
 use Prim.Native.Nat.{_+_, _/_}
 use native.Mathlib.Omega.{arith}
-use borrow.Author.Needs.{needs}
 use denote.Ref.{now}
 use Rattle.lloyd.proofs.Quantized.{quantized-le, Between, halved}
 use Rattle.quantizer.proofs.halving_from.Statement.{statement}
@@ -37,7 +36,7 @@ shared-slice-read-above : tie.Need-shared-slice-read-above Inv-loop μ-loop
 shared-slice-read-above c = omega arith
 
 above-requires : tie.Need-above-requires Inv-loop μ-loop
-above-requires c κs = search needs
+above-requires c κs = tt
 
 abbrev start : tie.After-above Inv-loop μ-loop → tie.Start Inv-loop μ-loop
 start c = c .before .before .before .before .before

@@ -16,7 +16,7 @@ use Rattle.quantizer.proofs.quantize.Statement.{statement}
 use Rattle.quantizer.proofs.quantize.Tie as tie
 
 levels-requires : tie.Need-levels-requires
-levels-requires c κs = search needs
+levels-requires c κs = tt
 
 returns : tie.Need-returns
 returns c =
@@ -24,7 +24,7 @@ returns c =
     omega (arith, quantized-le (boundariesOf (a .bits)) (a .x), boundaries-count (a .bits) (c .before .levels .result) (c .before .levels .ensures))
 
 boundaries-requires : tie.Need-boundaries-requires
-boundaries-requires c κs = search needs
+boundaries-requires c κs = tt
 
 sub-halving : tie.Need-sub-halving
 sub-halving c = search needs

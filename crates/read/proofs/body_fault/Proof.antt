@@ -5,9 +5,10 @@ use native.Mathlib.Omega.{arith}
 use borrow.Author.Tests.{lt-ltb, le-ltb, eq-eqb, ne-eqb}
 use lib.Dec.{ltb, eqb}
 use lib.ListN.{length}
-use Rattle.encode.specs.declared.Header.{Header}
+use Rattle.index.specs.declared.Index.{Index}
+use Rattle.index.specs.State.{recordOf}
 use Rattle.index.specs.Step.{firstOf}
-use Rattle.index.specs.Read.{dimIn, headerIn, firstLength, stagesIn}
+use Rattle.index.specs.Read.{dimIn, headerIn, firstLength, stagesIn, stateIn}
 use Rattle.read.specs.Parts.{bodyFault}
 use Rattle.read.proofs.Limits.{first-is}
 use borrow.Author.Needs.{needs}
@@ -21,9 +22,9 @@ there c =
     let f = c .before .before .before .before .before .args .file .now in
     le-ltb (length (stagesIn f)) (firstLength f) (omega (arith, c .if1 .left, ap length (c .before .before .stages-in .ensures), first-is f _ (c .before .before .before .sizes-in .ensures)))
 
-dim-is : (c : tie.After-header-in) → c .header-in .result .dim ≡ dimIn (c .before .before .before .before .before .before .args .file .now)
-unfolding headerIn
-dim-is c = ap (λ (h : Header). h .dim) (c .header-in .ensures)
+dim-is : (c : tie.After-index-in) → c .index-in .result .dim ≡ dimIn (c .before .before .before .before .before .before .args .file .now)
+unfolding recordOf stateIn headerIn
+dim-is c = ap (λ (x : Index). x .dim) (c .index-in .ensures)
 
 some : (c : tie.Else2) → eqb (dimIn (c .before .before .before .before .before .before .before .before .args .file .now)) 0 ≡ false
 some c = ne-eqb (dimIn (c .before .before .before .before .before .before .before .before .args .file .now)) 0 (λ e. c .if2 .left (dim-is (c .before .before) ∙ e))
@@ -32,7 +33,7 @@ sizes-in-requires : tie.Need-sizes-in-requires
 sizes-in-requires c κs = search needs
 
 stages-in-requires : tie.Need-stages-in-requires
-stages-in-requires c κs = search needs
+stages-in-requires c κs = tt
 
 returns : tie.Need-returns
 unfolding bodyFault firstOf
@@ -40,8 +41,8 @@ returns c =
     let f = c .before .before .before .before .before .args .file .now in
     rw (lt-ltb (length (stagesIn f)) (firstLength f) (omega (arith, c .if1 .taken, ap length (c .before .before .stages-in .ensures), first-is f _ (c .before .before .before .sizes-in .ensures))))
 
-header-in-requires : tie.Need-header-in-requires
-header-in-requires c κs = search needs
+index-in-requires : tie.Need-index-in-requires
+index-in-requires c κs = tt
 
 returns-2 : tie.Need-returns-2
 unfolding bodyFault firstOf
@@ -72,7 +73,7 @@ body-fault-spec =
     sizes-in-requires
     stages-in-requires
     returns
-    header-in-requires
+    index-in-requires
     returns-2
     rest-short-requires
     returns-3

@@ -11,7 +11,7 @@ table-in-requires : tie.Need-table-in-requires
 table-in-requires c κs = search needs
 
 rd-u32-requires : tie.Need-rd-u32-requires
-rd-u32-requires c κs = search needs
+rd-u32-requires c κs = tt
 
 returns : tie.Need-returns
 returns c =

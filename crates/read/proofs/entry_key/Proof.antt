@@ -12,10 +12,10 @@ add-after : tie.Need-add-after
 add-after c = search needs
 
 after-requires : tie.Need-after-requires
-after-requires c κs = search needs
+after-requires c κs = tt
 
 rd-u64-requires : tie.Need-rd-u64-requires
-rd-u64-requires c κs = search needs
+rd-u64-requires c κs = tt
 
 returns : tie.Need-returns
 unfolding entryFrom

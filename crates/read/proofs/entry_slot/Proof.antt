@@ -12,10 +12,10 @@ add-after : tie.Need-add-after
 add-after c = search needs
 
 after-requires : tie.Need-after-requires
-after-requires c κs = search needs
+after-requires c κs = tt
 
 rd-u32-requires : tie.Need-rd-u32-requires
-rd-u32-requires c κs = search needs
+rd-u32-requires c κs = tt
 
 cast-result : tie.Need-cast-result
 cast-result c = search needs

@@ -7,7 +7,7 @@ use Rattle.read.proofs.keys_sound.Statement.{statement}
 use Rattle.read.proofs.keys_sound.Tie as tie
 
 no-marks-requires : tie.Need-no-marks-requires
-no-marks-requires c κs = search needs
+no-marks-requires c κs = tt
 
 table-in-requires : tie.Need-table-in-requires
 table-in-requires c κs = search needs

@@ -10,10 +10,10 @@ set-keys-requires : tie.Need-set-keys-requires
 set-keys-requires c κs = search needs
 
 restore-order-requires : tie.Need-restore-order-requires
-restore-order-requires c κs = search needs
+restore-order-requires c κs = tt
 
 mark-live-requires : tie.Need-mark-live-requires
-mark-live-requires c κs = search needs
+mark-live-requires c κs = tt
 
 same-length : tie.Need-same-length
 same-length c = search needs

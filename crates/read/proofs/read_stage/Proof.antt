@@ -23,7 +23,7 @@ mul-after : tie.Need-mul-after
 mul-after c = let s = c .before .before .before .before .before .before .before .before .before in omega (arith, mul-le-mul (s .pre .0 .0) (scale-low _ (s .pre .1 .0)))
 
 after-requires : tie.Need-after-requires
-after-requires c κs = search needs
+after-requires c κs = tt
 
 mul-read-codes : tie.Need-mul-read-codes
 mul-read-codes c = search needs

@@ -27,7 +27,7 @@ entry-count-requires : tie.Need-entry-count-requires
 entry-count-requires c κs = search needs
 
 table-length-requires : tie.Need-table-length-requires
-table-length-requires c κs = search needs
+table-length-requires c κs = tt
 
 returns-2 : tie.Need-returns-2
 returns-2 c =

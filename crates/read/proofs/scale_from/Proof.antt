@@ -2,21 +2,20 @@
 use mathlib.Core.Path.{_≡_, ap, _∙_}
 use mathlib.Core.Logic.{⊎-elim}
 use Rattle.half.specs.Half.{widened}
-use borrow.Author.Needs.{needs}
 use Rattle.read.proofs.scale_from.Statement.{statement}
 use Rattle.read.proofs.scale_from.Tie as tie
 
 rd-u32-requires : tie.Need-rd-u32-requires
-rd-u32-requires c κs = search needs
+rd-u32-requires c κs = tt
 
 returns : tie.Need-returns
 returns c = rw (c .before .if1 .taken) (c .rd-u32 .ensures)
 
 rd-u16-requires : tie.Need-rd-u16-requires
-rd-u16-requires c κs = search needs
+rd-u16-requires c κs = tt
 
 f16-bits-to-f32-requires : tie.Need-f16-bits-to-f32-requires
-f16-bits-to-f32-requires c κs = search needs
+f16-bits-to-f32-requires c κs = tt
 
 returns-2 : tie.Need-returns-2
 returns-2 c =

@@ -3,15 +3,14 @@ use mathlib.Core.Path.{ap, ap₂, _∙_}
 use lib.ListN.{drop}
 use Rattle.read.specs.declared.Sizes.{Sizes}
 use Rattle.read.specs.Parts.{sizesOf}
-use borrow.Author.Needs.{needs}
 use Rattle.read.proofs.second_in.Statement.{statement}
 use Rattle.read.proofs.second_in.Tie as tie
 
 stages-in-requires : tie.Need-stages-in-requires
-stages-in-requires c κs = search needs
+stages-in-requires c κs = tt
 
 after-requires : tie.Need-after-requires
-after-requires c κs = search needs
+after-requires c κs = tt
 
 returns : tie.Need-returns
 unfolding sizesOf

@@ -11,7 +11,7 @@ second-in-requires : tie.Need-second-in-requires
 second-in-requires c κs = search needs
 
 after-requires : tie.Need-after-requires
-after-requires c κs = search needs
+after-requires c κs = tt
 
 returns : tie.Need-returns
 unfolding sizesOf

@@ -7,10 +7,10 @@ use Rattle.rhdh.proofs.rotate.Statement.{statement}
 use Rattle.rhdh.proofs.rotate.Tie as tie
 
 write-signed-requires : tie.Need-write-signed-requires
-write-signed-requires c κs = search needs
+write-signed-requires c κs = tt
 
 fwht-requires : tie.Need-fwht-requires
-fwht-requires c κs = search needs
+fwht-requires c κs = tt
 
 same-length : tie.Need-same-length
 same-length c = search needs

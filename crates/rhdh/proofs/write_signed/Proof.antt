@@ -14,16 +14,16 @@ abbrev μ-loop : tie.MeasureT-loop
 μ-loop v seed out₀ stream₀ i₀ out stream i = length out₀ - i
 
 new-requires : tie.Need-new-requires Inv-loop μ-loop
-new-requires c κs = search needs
+new-requires c κs = tt
 
 loop-holds : tie.Need-loop-holds Inv-loop μ-loop
 loop-holds c = written-none _ _ _ _ (c .new .ensures)
 
 next-sign-requires : tie.Need-next-sign-requires Inv-loop μ-loop
-next-sign-requires c κs = search needs
+next-sign-requires c κs = tt
 
 entry-or-zero-requires : tie.Need-entry-or-zero-requires Inv-loop μ-loop
-entry-or-zero-requires c κs = search needs
+entry-or-zero-requires c κs = tt
 
 mul-out : tie.Need-mul-out Inv-loop μ-loop
 mul-out c = search needs

@@ -13,7 +13,7 @@ raw-of-requires : tie.Need-raw-of-requires
 raw-of-requires c κs = search needs
 
 from-bits-requires : tie.Need-from-bits-requires
-from-bits-requires c κs = search needs
+from-bits-requires c κs = tt
 
 joined-requires : tie.Need-joined-requires
 joined-requires c κs = search needs

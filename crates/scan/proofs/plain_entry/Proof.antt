@@ -8,7 +8,7 @@ returns : tie.Need-returns
 returns c = entry-unmarked _ _ _ _ (c .if1 .taken)
 
 stage-score-requires : tie.Need-stage-score-requires
-stage-score-requires c κs = search needs
+stage-score-requires c κs = tt
 
 joined-requires : tie.Need-joined-requires
 joined-requires c κs = search needs

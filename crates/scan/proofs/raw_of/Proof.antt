@@ -11,7 +11,7 @@ eight-at-requires : tie.Need-eight-at-requires
 eight-at-requires c κs = search needs
 
 fold-eight-requires : tie.Need-fold-eight-requires
-fold-eight-requires c κs = search needs
+fold-eight-requires c κs = tt
 
 returns : tie.Need-returns
 returns c = raw-eight _ _ _ _ _ (c .before .before .if1 .taken) (c .before .eight-at .ensures) (c .fold-eight .ensures)
@@ -23,7 +23,7 @@ four-at-requires : tie.Need-four-at-requires
 four-at-requires c κs = search needs
 
 fold-four-requires : tie.Need-fold-four-requires
-fold-four-requires c κs = search needs
+fold-four-requires c κs = tt
 
 returns-2 : tie.Need-returns-2
 returns-2 c = raw-four _ _ _ _ _ (c .before .before .if1 .left) (c .before .four-at .ensures) (c .fold-four .ensures)

@@ -11,7 +11,7 @@ use Rattle.scan.proofs.scan_fitting.Statement.{statement}
 use Rattle.scan.proofs.scan_fitting.Tie as tie
 
 pair-floats-requires : tie.Need-pair-floats-requires
-pair-floats-requires c κs = search needs
+pair-floats-requires c κs = tt
 
 slice-aggregate-fill-pairs : tie.Need-slice-aggregate-fill-pairs
 slice-aggregate-fill-pairs c = search needs
@@ -22,10 +22,10 @@ fill-pairs-requires c κs = let s = c .before .before .before .before .before .b
     (g .to, g .table, omega (arith, levels-of (s .args .bits) (g .to) .square, levels-of (s .args .bits) (g .to) .most, c .before .pair-floats .ok))
 
 half-floats-requires : tie.Need-half-floats-requires
-half-floats-requires c κs = search needs
+half-floats-requires c κs = tt
 
 half-floats-requires-2 : tie.Need-half-floats-requires-2
-half-floats-requires-2 c κs = search needs
+half-floats-requires-2 c κs = tt
 
 slice-aggregate-halve : tie.Need-slice-aggregate-halve
 slice-aggregate-halve c = search needs
@@ -37,7 +37,7 @@ halve-requires : tie.Need-halve-requires
 halve-requires c κs = search needs
 
 half-floats-requires-3 : tie.Need-half-floats-requires-3
-half-floats-requires-3 c κs = search needs
+half-floats-requires-3 c κs = tt
 
 slice-aggregate-scan-groups : tie.Need-slice-aggregate-scan-groups
 slice-aggregate-scan-groups c = search needs

@@ -1,5 +1,4 @@
 -- `scan::scan_plainly` meets its contract.
-use borrow.Author.Needs.{needs}
 use native.Mathlib.Omega.{arith}
 use mathlib.Core.Path.{_≡_, refl}
 use Prim.Native.Nat.{_-_, _≤_}
@@ -21,13 +20,13 @@ loop-holds : tie.Need-loop-holds Inv-loop μ-loop
 loop-holds c = (omega arith, refl, changed-none _ _ _)
 
 slot-codes-requires : tie.Need-slot-codes-requires Inv-loop μ-loop
-slot-codes-requires c κs = search needs
+slot-codes-requires c κs = tt
 
 scale-at-requires : tie.Need-scale-at-requires Inv-loop μ-loop
-scale-at-requires c κs = search needs
+scale-at-requires c κs = tt
 
 mark-at-requires : tie.Need-mark-at-requires Inv-loop μ-loop
-mark-at-requires c κs = search needs
+mark-at-requires c κs = tt
 
 mul-plain-entry : tie.Need-mul-plain-entry Inv-loop μ-loop
 mul-plain-entry c = omega arith
@@ -36,7 +35,7 @@ slice-read-plain-entry : tie.Need-slice-read-plain-entry Inv-loop μ-loop
 slice-read-plain-entry c = omega arith
 
 plain-entry-requires : tie.Need-plain-entry-requires Inv-loop μ-loop
-plain-entry-requires c κs = search needs
+plain-entry-requires c κs = tt
 
 mul-all : tie.Need-mul-all Inv-loop μ-loop
 mul-all c = omega arith

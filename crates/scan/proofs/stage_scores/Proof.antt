@@ -8,7 +8,7 @@ returns : tie.Need-returns
 returns c = scanned-none _ _ _ _ _ (c .if1 .taken)
 
 is-grouped-requires : tie.Need-is-grouped-requires
-is-grouped-requires c κs = search needs
+is-grouped-requires c κs = tt
 
 scan-fitting-requires : tie.Need-scan-fitting-requires
 scan-fitting-requires c κs = (c .before .before .is-grouped .ensures (c .before .if2 .taken), c .before .before .before .if1 .left)

@@ -1,5 +1,4 @@
 -- `scan::sum_wide` meets its contract.
-use borrow.Author.Needs.{needs}
 use native.Mathlib.Omega.{arith}
 use mathlib.Core.Path.{_≡_, refl, ap, _∙_}
 use mathlib.Core.Bool.{Bool, cond}
@@ -41,7 +40,7 @@ shared-slice-read-either-2 : tie.Need-shared-slice-read-either-2 Inv-loop μ-loo
 shared-slice-read-either-2 c = omega arith
 
 either-requires : tie.Need-either-requires Inv-loop μ-loop
-either-requires c κs = search needs
+either-requires c κs = tt
 
 mul-sum-two : tie.Need-mul-sum-two Inv-loop μ-loop
 mul-sum-two c = omega arith

@@ -1,12 +1,11 @@
 -- `score_slot::is_tiny` meets its contract.
 use mathlib.Core.Path.{sym}
 use borrow.Author.Tests.{ne-eqb}
-use borrow.Author.Needs.{needs}
 use Rattle.score_slot.proofs.is_tiny.Statement.{statement}
 use Rattle.score_slot.proofs.is_tiny.Tie as tie
 
 padded-dim-requires : tie.Need-padded-dim-requires
-padded-dim-requires c κs = search needs
+padded-dim-requires c κs = tt
 
 returns : tie.Need-returns
 returns c = rw (sym (c .before .before .padded-dim .ensures), c .before .if1 .taken)

@@ -4,12 +4,11 @@ use mathlib.Core.Bool.{true, false}
 use borrow.Author.Tests.{not-true, not-false}
 use Rattle.index.specs.State.{headerOf}
 use Rattle.score_slot.proofs.Query.{fault-vector, fault-idle, fault-tiny}
-use borrow.Author.Needs.{needs}
 use Rattle.score_slot.proofs.query_fault.Statement.{statement}
 use Rattle.score_slot.proofs.query_fault.Tie as tie
 
 vector-fault-requires : tie.Need-vector-fault-requires
-vector-fault-requires c κs = search needs
+vector-fault-requires c κs = tt
 
 returns : tie.Need-returns
 returns c = fault-vector (headerOf (c .before .before .before .args .index)) _ _ _ (c .before .vector-fault .ensures) (c .if1 .taken)
@@ -20,7 +19,7 @@ returns-2 c =
     fault-idle (headerOf (s .args .index)) _ _ (sym (c .before .if1 .left) ∙ c .before .before .vector-fault .ensures) (not-true _ (c .if2 .taken))
 
 is-tiny-requires : tie.Need-is-tiny-requires
-is-tiny-requires c κs = search needs
+is-tiny-requires c κs = tt
 
 returns-3 : tie.Need-returns-3
 returns-3 c =

@@ -5,19 +5,18 @@ use Rattle.index.specs.State.{slotAt}
 use Rattle.index.proofs.Calls.{call-misfit}
 use Rattle.score_slot.proofs.Query.{width-in, query-rotatable}
 use Rattle.score_slot.proofs.Answer.{score-refused, score-past, score-in}
-use borrow.Author.Needs.{needs}
 use Rattle.score_slot.proofs.score.Statement.{statement}
 use Rattle.score_slot.proofs.score.Tie as tie
 
 fits-requires : tie.Need-fits-requires
-fits-requires c κs = search needs
+fits-requires c κs = tt
 
 returns : tie.Need-returns
 returns c =
     sym (call-misfit _ _ _ (says-no (c .before .fits2 .ensures) (c .if1 .taken)))
 
 query-fault-requires : tie.Need-query-fault-requires
-query-fault-requires c κs = search needs
+query-fault-requires c κs = tt
 
 returns-2 : tie.Need-returns-2
 returns-2 c =

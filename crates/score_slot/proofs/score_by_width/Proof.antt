@@ -15,22 +15,22 @@ use Rattle.score_slot.proofs.score_by_width.Statement.{statement}
 use Rattle.score_slot.proofs.score_by_width.Tie as tie
 
 levels-requires : tie.Need-levels-requires
-levels-requires c κs = search needs
+levels-requires c κs = tt
 
 centroids-requires : tie.Need-centroids-requires
-centroids-requires c κs = search needs
+centroids-requires c κs = tt
 
 padded-dim-requires : tie.Need-padded-dim-requires
-padded-dim-requires c κs = search needs
+padded-dim-requires c κs = tt
 
 floats-requires : tie.Need-floats-requires
-floats-requires c κs = search needs
+floats-requires c κs = tt
 
 slice-aggregate-prepare : tie.Need-slice-aggregate-prepare
 slice-aggregate-prepare c = search needs
 
 prepare-requires : tie.Need-prepare-requires
-prepare-requires c κs = search needs
+prepare-requires c κs = tt
 
 sub-score-prepared : tie.Need-sub-score-prepared
 sub-score-prepared c = search needs
@@ -54,7 +54,7 @@ part-score-prepared-end-2 c =
     omega (arith, c .before .before .before .before .before .before .before .padded-dim .ensures, c .before .before .before .before .prepare .kept, c .before .before .before .before .before .before .floats .ok, rotatable-of _ _ 4096 (s .pre .1) .room)
 
 score-prepared-requires : tie.Need-score-prepared-requires
-score-prepared-requires c κs = search needs
+score-prepared-requires c κs = tt
 
 returns : tie.Need-returns
 returns c =

@@ -2,30 +2,29 @@
 use denote.Ref.{now}
 use Rattle.index.specs.State.{headerOf, stageAt}
 use Rattle.score_slot.proofs.Slot.{stage-lent, one-stage, two-stages}
-use borrow.Author.Needs.{needs}
 use Rattle.score_slot.proofs.score_prepared.Statement.{statement}
 use Rattle.score_slot.proofs.score_prepared.Tie as tie
 
 padded-dim-requires : tie.Need-padded-dim-requires
-padded-dim-requires c κs = search needs
+padded-dim-requires c κs = tt
 
 bytes-per-vector-requires : tie.Need-bytes-per-vector-requires
-bytes-per-vector-requires c κs = search needs
+bytes-per-vector-requires c κs = tt
 
 scale-at-requires : tie.Need-scale-at-requires
-scale-at-requires c κs = search needs
+scale-at-requires c κs = tt
 
 slot-codes-requires : tie.Need-slot-codes-requires
-slot-codes-requires c κs = search needs
+slot-codes-requires c κs = tt
 
 scale-at-requires-2 : tie.Need-scale-at-requires-2
-scale-at-requires-2 c κs = search needs
+scale-at-requires-2 c κs = tt
 
 slot-codes-requires-2 : tie.Need-slot-codes-requires-2
-slot-codes-requires-2 c κs = search needs
+slot-codes-requires-2 c κs = tt
 
 score-residual-requires : tie.Need-score-residual-requires
-score-residual-requires c κs = search needs
+score-residual-requires c κs = tt
 
 returns : tie.Need-returns
 returns c =
@@ -41,7 +40,7 @@ returns c =
     _ (c .before .before .before .if1 .taken) (c .score-residual .ensures)
 
 score-requires : tie.Need-score-requires
-score-requires c κs = search needs
+score-requires c κs = tt
 
 returns-2 : tie.Need-returns-2
 returns-2 c =

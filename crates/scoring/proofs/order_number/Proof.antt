@@ -4,7 +4,7 @@ use Rattle.scoring.proofs.order_number.Statement.{statement}
 use Rattle.scoring.proofs.order_number.Tie as tie
 
 to-bits-requires : tie.Need-to-bits-requires
-to-bits-requires c κs = search needs
+to-bits-requires c κs = tt
 
 sub-result : tie.Need-sub-result
 sub-result c = search needs

@@ -2,18 +2,17 @@
 use mathlib.Core.Path.{sym, _∙_}
 use Rattle.unit.proofs.Rotatable.{says-no, says-yes}
 use Rattle.search_cascade.proofs.Cascade.{fault-places, fault-cascade, fault-query}
-use borrow.Author.Needs.{needs}
 use Rattle.search_cascade.proofs.cascade_fault.Statement.{statement}
 use Rattle.search_cascade.proofs.cascade_fault.Tie as tie
 
 places-fault-requires : tie.Need-places-fault-requires
-places-fault-requires c κs = search needs
+places-fault-requires c κs = tt
 
 returns : tie.Need-returns
 returns c = fault-places _ _ _ _ _ _ (c .before .places-fault .ensures) (c .if1 .taken)
 
 is-enabled-requires : tie.Need-is-enabled-requires
-is-enabled-requires c κs = search needs
+is-enabled-requires c κs = tt
 
 returns-2 : tie.Need-returns-2
 returns-2 c =
@@ -21,7 +20,7 @@ returns-2 c =
     (says-no (c .before .is-enabled .ensures) (c .if2 .taken))
 
 query-fault-requires : tie.Need-query-fault-requires
-query-fault-requires c κs = search needs
+query-fault-requires c κs = tt
 
 returns-3 : tie.Need-returns-3
 returns-3 c =

@@ -8,22 +8,22 @@ use Rattle.search_cascade.proofs.search_cascade.Statement.{statement}
 use Rattle.search_cascade.proofs.search_cascade.Tie as tie
 
 cascade-fault-requires : tie.Need-cascade-fault-requires
-cascade-fault-requires c κs = search needs
+cascade-fault-requires c κs = tt
 
 returns : tie.Need-returns
 returns c = cascade-refused _ _ _ _ _ _ _ (c .before .cascade-fault .ensures) _ _ (c .if1 .taken)
 
 no-marks-requires : tie.Need-no-marks-requires
-no-marks-requires c κs = search needs
+no-marks-requires c κs = tt
 
 candidates-wanted-requires : tie.Need-candidates-wanted-requires
-candidates-wanted-requires c κs = search needs
+candidates-wanted-requires c κs = tt
 
 slice-aggregate-mark-nearest : tie.Need-slice-aggregate-mark-nearest
 slice-aggregate-mark-nearest c = search needs
 
 mark-nearest-requires : tie.Need-mark-nearest-requires
-mark-nearest-requires c κs = search needs
+mark-nearest-requires c κs = tt
 
 slice-aggregate-list : tie.Need-slice-aggregate-list
 slice-aggregate-list c = search needs

@@ -1,6 +1,5 @@
 -- `settings::enable_cascade` meets its contract.
 use mathlib.Core.Path.{sym}
-use borrow.Author.Needs.{needs}
 use Rattle.unit.proofs.Rotatable.{says-no, says-yes}
 use Rattle.index.proofs.Calls.{call-misfit}
 use Rattle.settings.proofs.Setting.{enable-11, enabled}
@@ -8,7 +7,7 @@ use Rattle.settings.proofs.enable_cascade.Statement.{statement}
 use Rattle.settings.proofs.enable_cascade.Tie as tie
 
 fits-requires : tie.Need-fits-requires
-fits-requires c κs = search needs
+fits-requires c κs = tt
 
 returns : tie.Need-returns
 returns c = sym (call-misfit _ _ _ (says-no (c .before .fits2 .ensures) (c .if1 .taken)))

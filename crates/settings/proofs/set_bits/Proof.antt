@@ -1,7 +1,6 @@
 -- `settings::set_bits` meets its contract.
 use mathlib.Core.Path.{sym}
 use native.Mathlib.Omega.{arith}
-use borrow.Author.Needs.{needs}
 use borrow.Author.Tests.{not-true, not-false}
 use Rattle.unit.proofs.Rotatable.{says-no, says-yes}
 use Rattle.index.proofs.Calls.{call-misfit}
@@ -10,7 +9,7 @@ use Rattle.settings.proofs.set_bits.Statement.{statement}
 use Rattle.settings.proofs.set_bits.Tie as tie
 
 fits-requires : tie.Need-fits-requires
-fits-requires c κs = search needs
+fits-requires c κs = tt
 
 returns : tie.Need-returns
 returns c = sym (call-misfit _ _ _ (says-no (c .before .fits2 .ensures) (c .if1 .taken)))

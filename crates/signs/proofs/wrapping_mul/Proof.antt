@@ -14,10 +14,10 @@ mul-wrapping-add-u64-2 : tie.Need-mul-wrapping-add-u64-2
 mul-wrapping-add-u64-2 c = record { fits = product-lt 32 (search needs) (search needs) }
 
 wrapping-add-u64-requires : tie.Need-wrapping-add-u64-requires
-wrapping-add-u64-requires c κs = search needs
+wrapping-add-u64-requires c κs = tt
 
 wrapping-add-u64-requires-2 : tie.Need-wrapping-add-u64-requires-2
-wrapping-add-u64-requires-2 c κs = search needs
+wrapping-add-u64-requires-2 c κs = tt
 
 returns : tie.Need-returns
 returns c = from-halves _ _ _ _ (c .before .wrapping-add-u64 .ensures) (c .wrapping-add-u642 .ensures)

@@ -2,16 +2,15 @@
 use mathlib.Core.Path.{sym, _∙_}
 use mathlib.Core.Bool.{false}
 use lib.ListN.{getD}
-use borrow.Author.Needs.{needs}
 use Rattle.slot_keys.proofs.Has.{key-met, key-other}
 use Rattle.slot_keys.proofs.has_key.Statement.{statement}
 use Rattle.slot_keys.proofs.has_key.Tie as tie
 
 key-word-requires : tie.Need-key-word-requires
-key-word-requires c κs = search needs
+key-word-requires c κs = tt
 
 is-keyed-requires : tie.Need-is-keyed-requires
-is-keyed-requires c κs = search needs
+is-keyed-requires c κs = tt
 
 returns : tie.Need-returns
 returns c = c .is-keyed .ensures ∙ sym (key-met _ _ _ (sym (c .before .before .key-word .ensures) ∙ c .before .if1 .taken))

@@ -5,7 +5,7 @@ use Rattle.sqrt.proofs.paired.Statement.{statement}
 use Rattle.sqrt.proofs.paired.Tie as tie
 
 wide-requires : tie.Need-wide-requires
-wide-requires c κs = search needs
+wide-requires c κs = tt
 
 add-t5 : tie.Need-add-t5
 add-t5 c = search needs

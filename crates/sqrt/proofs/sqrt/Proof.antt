@@ -1,6 +1,5 @@
 -- `sqrt::sqrt` meets its contract: the result is `squareRoot` of the argument, of which `square-root` of `Floats.antt` speaks.
 use mathlib.Core.Path.{_≡_, sym, subst}
-use borrow.Author.Needs.{needs}
 use lib.Dec.{T}
 use lib.Ieee.{Float}
 use Rattle.sqrt.specs.Root.{squareRoot, SquareRoot}
@@ -9,13 +8,13 @@ use Rattle.sqrt.proofs.sqrt.Statement.{statement}
 use Rattle.sqrt.proofs.sqrt.Tie as tie
 
 to-bits-requires : tie.Need-to-bits-requires
-to-bits-requires c κs = search needs
+to-bits-requires c κs = tt
 
 root-bits-requires : tie.Need-root-bits-requires
-root-bits-requires c κs = search needs
+root-bits-requires c κs = tt
 
 from-bits-requires : tie.Need-from-bits-requires
-from-bits-requires c κs = search needs
+from-bits-requires c κs = tt
 
 is-root : (c : tie.After-from-bits) → c .from-bits .result ≡ squareRoot (c .before .before .before .args .x)
 unfolding squareRoot

@@ -10,7 +10,7 @@ use Rattle.text.proofs.field.Statement.{statement}
 use Rattle.text.proofs.field.Tie as tie
 
 start-requires : tie.Need-start-requires
-start-requires c κs = search needs
+start-requires c κs = tt
 
 sub-rest : tie.Need-sub-rest
 sub-rest c = search needs
@@ -22,7 +22,7 @@ part-rest-end : tie.Need-part-rest-end
 part-rest-end c = search needs
 
 first-length-requires : tie.Need-first-length-requires
-first-length-requires c κs = search needs
+first-length-requires c κs = tt
 
 sub-result : tie.Need-sub-result
 sub-result c = search needs

@@ -1,6 +1,5 @@
 use native.Mathlib.Omega.{arith}
 use Rattle.unit.proofs.Vectors.{norm-is, unit-is}
-use borrow.Author.Needs.{needs}
 use Rattle.unit.proofs.normalize.Statement.{statement}
 use Rattle.unit.proofs.normalize.Tie as tie
 use Rattle.unit.proofs.normalize.Reads as reads
@@ -10,13 +9,13 @@ use Rattle.vectors.proofs.sum_squares.Reads as sum-squares-reads
 use Rattle.sqrt.proofs.sqrt.Reads as sqrt-reads
 
 sum-squares-requires : tie.Need-sum-squares-requires
-sum-squares-requires c κs = search needs
+sum-squares-requires c κs = tt
 
 sqrt-requires : tie.Need-sqrt-requires
-sqrt-requires c κs = search needs
+sqrt-requires c κs = tt
 
 divide-requires : tie.Need-divide-requires
-divide-requires c κs = search needs
+divide-requires c κs = tt
 
 same-length : tie.Need-same-length
 same-length c = omega (arith, c .before .before .divide .kept)

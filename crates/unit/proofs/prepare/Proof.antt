@@ -7,18 +7,17 @@ use Rattle.unit.proofs.prepare.Statement.{statement}
 use Rattle.unit.proofs.prepare.Tie as tie
 use Rattle.unit.proofs.prepare.Reads as reads
 use Rattle.unit.proofs.prepare.Lts as lts
-use Rattle.unit.proofs.is_rotatable.Reads as is-rotatable-reads
 use Rattle.unit.proofs.prepare_whole.Reads as prepare-whole-reads
 use Rattle.padding.proofs.padded_dim.Reads as padded-dim-reads
 
 is-rotatable-requires : tie.Need-is-rotatable-requires
-is-rotatable-requires c κs = search needs
+is-rotatable-requires c κs = tt
 
 returns : tie.Need-returns
 returns c = not-prepared _ _ _ _ (says-no (c .before .is-rotatable .ensures) (c .if1 .taken))
 
 padded-dim-requires : tie.Need-padded-dim-requires
-padded-dim-requires c κs = search needs
+padded-dim-requires c κs = tt
 
 sub-prepare-whole : tie.Need-sub-prepare-whole
 sub-prepare-whole c = search needs

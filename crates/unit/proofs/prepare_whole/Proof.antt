@@ -2,7 +2,6 @@ use native.Mathlib.Omega.{arith}
 use mathlib.Core.Path.{ap, _∙_}
 use Rattle.unit.specs.Unit.{norm, unit}
 use Rattle.unit.proofs.Vectors.{rotated-whole}
-use borrow.Author.Needs.{needs}
 use Rattle.unit.proofs.prepare_whole.Statement.{statement}
 use Rattle.unit.proofs.prepare_whole.Tie as tie
 use Rattle.unit.proofs.prepare_whole.Reads as reads
@@ -11,10 +10,10 @@ use Rattle.unit.proofs.normalize.Reads as normalize-reads
 use Rattle.unit.proofs.rotate.Reads as rotate-reads
 
 rotate-requires : tie.Need-rotate-requires
-rotate-requires c κs = search needs
+rotate-requires c κs = tt
 
 normalize-requires : tie.Need-normalize-requires
-normalize-requires c κs = search needs
+normalize-requires c κs = tt
 
 same-length : tie.Need-same-length
 same-length c = omega (arith, c .before .before .normalize .kept, c .before .before .before .before .before .before .rotate .kept)

@@ -8,14 +8,13 @@ use Rattle.unit.proofs.rotate.Tie as tie
 use Rattle.unit.proofs.rotate.Reads as reads
 use Rattle.unit.proofs.rotate.Lts as lts
 use Rattle.unit.proofs.floats.Reads as floats-reads
-use Rattle.unit.proofs.is_rotatable.Reads as is-rotatable-reads
 use Rattle.unit.proofs.rotate_entries.Reads as rotate-entries-reads
 
 is-rotatable-requires : tie.Need-is-rotatable-requires
-is-rotatable-requires c κs = search needs
+is-rotatable-requires c κs = tt
 
 floats-requires : tie.Need-floats-requires
-floats-requires c κs = search needs
+floats-requires c κs = tt
 
 sub-rotate-entries : tie.Need-sub-rotate-entries
 sub-rotate-entries c = search needs

@@ -13,13 +13,13 @@ copy-requires : tie.Need-copy-requires
 copy-requires c κs = search needs
 
 normalize-requires : tie.Need-normalize-requires
-normalize-requires c κs = search needs
+normalize-requires c κs = tt
 
 new-requires : tie.Need-new-requires
-new-requires c κs = search needs
+new-requires c κs = tt
 
 apply-requires : tie.Need-apply-requires
-apply-requires c κs = search needs
+apply-requires c κs = tt
 
 same-length : tie.Need-same-length
 same-length c = omega (arith, c .before .before .apply .kept, c .before .before .before .before .before .before .before .before .normalize .kept, c .before .before .before .before .before .before .before .before .before .before .before .before .copy .kept)

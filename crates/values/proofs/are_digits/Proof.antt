@@ -21,7 +21,7 @@ shared-slice-read-digit : tie.Need-shared-slice-read-digit Inv-loop μ-loop
 shared-slice-read-digit c = search needs
 
 digit-requires : tie.Need-digit-requires Inv-loop μ-loop
-digit-requires c κs = search needs
+digit-requires c κs = tt
 
 returns : tie.Need-returns Inv-loop μ-loop
 returns c =

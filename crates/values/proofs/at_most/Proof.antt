@@ -1,5 +1,4 @@
 use Prim.Native.Nat.{zero-le}
-use borrow.Author.Needs.{needs}
 use borrow.Author.Tests.{le-leb, lt-leb}
 use Rattle.values.proofs.at_most.Statement.{statement}
 use Rattle.values.proofs.at_most.Tie as tie
@@ -8,7 +7,7 @@ returns : tie.Need-returns
 returns c = (simp (le-leb _ _ (c .if1 .taken)), c .if1 .taken)
 
 no-number-requires : tie.Need-no-number-requires
-no-number-requires c κs = search needs
+no-number-requires c κs = tt
 
 returns-2 : tie.Need-returns-2
 returns-2 c = (simp (lt-leb _ _ (c .before .if1 .left)) (c .no-number .ensures), rw (c .no-number .ensures) zero-le)

@@ -5,7 +5,7 @@ use Rattle.values.proofs.bytes_at.Statement.{statement}
 use Rattle.values.proofs.bytes_at.Tie as tie
 
 field-requires : tie.Need-field-requires
-field-requires c κs = search needs
+field-requires c κs = tt
 
 run-of-requires : tie.Need-run-of-requires
 run-of-requires c κs = search needs

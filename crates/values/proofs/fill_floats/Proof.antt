@@ -1,7 +1,7 @@
 use mathlib.Core.Path.{ap, _∙_}
 use Prim.Native.Nat.{ℕ, _-_}
 use native.Mathlib.Omega.{arith}
-use borrow.Author.Needs.{needs, scaled-fits}
+use borrow.Author.Needs.{scaled-fits}
 use lib.Dec.{lit≤}
 use lib.Ieee.{Float, binary32, ofBits}
 use lib.ListN.{length}
@@ -27,7 +27,7 @@ cast-from-bits : tie.Need-cast-from-bits Inv-loop μ-loop
 cast-from-bits c = record { fits = c .element .ensures .1 }
 
 from-bits-requires : tie.Need-from-bits-requires Inv-loop μ-loop
-from-bits-requires c κs = search needs
+from-bits-requires c κs = tt
 
 mul-out : tie.Need-mul-out Inv-loop μ-loop
 mul-out c =

@@ -1,6 +1,5 @@
 use mathlib.Core.Path.{sym, _∙_}
 use native.Mathlib.Nat.{le-of-eq, pos-of-ne-zero}
-use borrow.Author.Needs.{needs}
 use borrow.Author.Tests.{le-leb, lt-leb, lt-ltb, le-ltb}
 use Rattle.values.specs.Reading.{isNumber}
 use Rattle.values.proofs.is_number.Statement.{statement}
@@ -15,14 +14,14 @@ unfolding isNumber
 returns-2 c = simp (lt-ltb 0 _ (pos-of-ne-zero (c .before .if1 .left)), lt-leb _ 16 (c .if2 .taken))
 
 leads-with-zero-requires : tie.Need-leads-with-zero-requires
-leads-with-zero-requires c κs = search needs
+leads-with-zero-requires c κs = tt
 
 returns-3 : tie.Need-returns-3
 unfolding isNumber
 returns-3 c = simp (lt-ltb 0 _ (pos-of-ne-zero (c .before .before .before .if1 .left)), le-leb _ 16 (c .before .before .if2 .left), sym (c .before .leads-with-zero .ensures) ∙ c .if3 .taken)
 
 are-digits-requires : tie.Need-are-digits-requires
-are-digits-requires c κs = search needs
+are-digits-requires c κs = tt
 
 returns-4 : tie.Need-returns-4
 unfolding isNumber

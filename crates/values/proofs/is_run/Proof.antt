@@ -24,7 +24,7 @@ unfolding isRun
 returns-3 c = simp (lt-ltb 0 _ (pos-of-ne-zero (c .before .before .if1 .left)), eq-eqb _ 0 (c .before .if2 .left), lt-leb _ _ (c .if3 .taken))
 
 are-digits-requires : tie.Need-are-digits-requires
-are-digits-requires c κs = search needs
+are-digits-requires c κs = tt
 
 returns-4 : tie.Need-returns-4
 unfolding isRun

@@ -1,20 +1,19 @@
 use mathlib.Core.Path.{_≡_, sym, ap, _∙_}
 use mathlib.Core.Bool.{true}
 use Prim.Native.Nat.{zero-le}
-use borrow.Author.Needs.{needs}
 use Rattle.values.specs.Reading.{isNumber, atMost, numberOf}
 use Rattle.values.proofs.Runs.{number-is}
 use Rattle.values.proofs.read_number.Statement.{statement}
 use Rattle.values.proofs.read_number.Tie as tie
 
 is-number-requires : tie.Need-is-number-requires
-is-number-requires c κs = search needs
+is-number-requires c κs = tt
 
 value-requires : tie.Need-value-requires
 value-requires c κs = number-is (c .before .before .before .args .field .now) (sym (c .before .is-number .ensures) ∙ c .if1 .taken)
 
 at-most-requires : tie.Need-at-most-requires
-at-most-requires c κs = search needs
+at-most-requires c κs = tt
 
 returns : tie.Need-returns
 unfolding numberOf
@@ -25,7 +24,7 @@ returns c =
     (simp is (c .at-most .ensures .0 ∙ same), c .at-most .ensures .1)
 
 no-number-requires : tie.Need-no-number-requires
-no-number-requires c κs = search needs
+no-number-requires c κs = tt
 
 returns-2 : tie.Need-returns-2
 unfolding numberOf

@@ -20,19 +20,19 @@ part-sum-squares-end : tie.Need-part-sum-squares-end
 part-sum-squares-end c = search needs
 
 sum-squares-requires : tie.Need-sum-squares-requires
-sum-squares-requires c κs = search needs
+sum-squares-requires c κs = tt
 
 sum-fault-requires : tie.Need-sum-fault-requires
-sum-fault-requires c κs = search needs
+sum-fault-requires c κs = tt
 
 returns-2 : tie.Need-returns-2
 returns-2 c = first-entries _ _ _ (c .before .before .before .before .if1 .left) _ _ (c .sum-fault .ensures) (c .before .sum-squares .ensures)
 
 sum-squares-requires-2 : tie.Need-sum-squares-requires-2
-sum-squares-requires-2 c κs = search needs
+sum-squares-requires-2 c κs = tt
 
 sum-fault-requires-2 : tie.Need-sum-fault-requires-2
-sum-fault-requires-2 c κs = search needs
+sum-fault-requires-2 c κs = tt
 
 returns-3 : tie.Need-returns-3
 returns-3 c = all-entries _ _ _ (c .before .before .before .if1 .left) _ _ (c .sum-fault2 .ensures) (c .before .before .if2 .left) (c .before .sum-squares2 .ensures)

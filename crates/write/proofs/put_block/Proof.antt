@@ -7,10 +7,10 @@ use Rattle.write.proofs.put_block.Statement.{statement}
 use Rattle.write.proofs.put_block.Tie as tie
 
 is-live-requires : tie.Need-is-live-requires
-is-live-requires c κs = search needs
+is-live-requires c κs = tt
 
 slot-codes-requires : tie.Need-slot-codes-requires
-slot-codes-requires c κs = search needs
+slot-codes-requires c κs = tt
 
 put-bytes-requires : tie.Need-put-bytes-requires
 unfolding codePiece

@@ -3,7 +3,6 @@ use mathlib.Core.Path.{_≡_, refl, sym, ap, _∙_}
 use mathlib.Core.Logic.{⊎-elim}
 use Prim.Native.Nat.{_-_}
 use native.Mathlib.Omega.{arith}
-use borrow.Author.Needs.{needs}
 use Rattle.lists.specs.Keep.{bit, count}
 use Rattle.lists.specs.Lists.{below}
 use Rattle.marks.specs.Live.{liveAt}
@@ -29,7 +28,7 @@ put-entry-requires c κs =
     entry-room _ _ _ _ _ (v .1) _ _ (run-room _ _ _ _ (v .0) (c .before .before .before .before .before .before .before .pre) (c .before .loop-test .taken))
 
 is-live-requires : tie.Need-is-live-requires Inv-loop μ-loop
-is-live-requires c κs = search needs
+is-live-requires c κs = tt
 
 add-number : tie.Need-add-number Inv-loop μ-loop
 add-number c = omega (arith, c .before .before .before .before .before .before .before .loop .inv .1, count-few (liveAt (c .before .before .before .before .before .before .before .before .before .before .before .before .args .alive .now)) (c .before .before .before .before .before .before .before .loop .i), c .before .before .before .before .before .before .loop-test .taken)

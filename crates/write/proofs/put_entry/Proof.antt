@@ -16,7 +16,7 @@ abbrev second : tie.Start → List ℕ
 second s = leBytes 8 (getD (s .args .keys .now) (s .args .slot) 0)
 
 has-entry-requires : tie.Need-has-entry-requires
-has-entry-requires c κs = search needs
+has-entry-requires c κs = tt
 
 put-number-requires : tie.Need-put-number-requires
 put-number-requires c κs =
@@ -24,7 +24,7 @@ put-number-requires c κs =
     room-first _ _ (first s) (second s) (piece-room _ (first s ++ second s) _ _ (sym (c .before .before .has-entry .ensures) ∙ c .before .if1 .taken) (c .before .before .before .before .before .before .before .pre))
 
 key-word-requires : tie.Need-key-word-requires
-key-word-requires c κs = search needs
+key-word-requires c κs = tt
 
 put-number-requires-2 : tie.Need-put-number-requires-2
 put-number-requires-2 c κs =

@@ -10,7 +10,7 @@ use Rattle.write.proofs.put_file.Statement.{statement}
 use Rattle.write.proofs.put_file.Tie as tie
 
 count-slots-requires : tie.Need-count-slots-requires
-count-slots-requires c κs = search needs
+count-slots-requires c κs = tt
 
 put-head-requires : tie.Need-put-head-requires
 put-head-requires c κs =

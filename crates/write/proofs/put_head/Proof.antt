@@ -11,7 +11,7 @@ put-number-requires-2 : tie.Need-put-number-requires-2
 put-number-requires-2 c κs = search needs
 
 working-field-requires : tie.Need-working-field-requires
-working-field-requires c κs = search needs
+working-field-requires c κs = tt
 
 put-number-requires-3 : tie.Need-put-number-requires-3
 put-number-requires-3 c κs = search needs

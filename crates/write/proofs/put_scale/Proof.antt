@@ -9,17 +9,17 @@ use Rattle.write.proofs.put_scale.Statement.{statement}
 use Rattle.write.proofs.put_scale.Tie as tie
 
 is-live-requires : tie.Need-is-live-requires
-is-live-requires c κs = search needs
+is-live-requires c κs = tt
 
 returns : tie.Need-returns
 unfolding scalePiece
 returns c = piece-none _ _ _ _ (sym (c .before .is-live .ensures) ∙ not-true _ (c .if1 .taken))
 
 scale-of-requires : tie.Need-scale-of-requires
-scale-of-requires c κs = search needs
+scale-of-requires c κs = tt
 
 f32-to-f16-bits-requires : tie.Need-f32-to-f16-bits-requires
-f32-to-f16-bits-requires c κs = search needs
+f32-to-f16-bits-requires c κs = tt
 
 cast-put-number : tie.Need-cast-put-number
 cast-put-number c = search needs

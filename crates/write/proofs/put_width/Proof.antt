@@ -9,7 +9,7 @@ use Rattle.write.proofs.put_width.Statement.{statement}
 use Rattle.write.proofs.put_width.Tie as tie
 
 form-of-requires : tie.Need-form-of-requires
-form-of-requires c κs = search needs
+form-of-requires c κs = tt
 
 slice-write-file : tie.Need-slice-write-file
 slice-write-file c = omega (arith, piece-room _ (c .before .before .before .args .index .bits ∷ []) _ _ (sym (ap (λ (f : Form). f .width) (c .before .form-of .ensures)) ∙ c .if1 .taken) (c .before .before .before .pre))

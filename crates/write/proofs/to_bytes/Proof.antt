@@ -6,7 +6,7 @@ use Rattle.write.proofs.to_bytes.Statement.{statement}
 use Rattle.write.proofs.to_bytes.Tie as tie
 
 file-length-requires : tie.Need-file-length-requires
-file-length-requires c κs = search needs
+file-length-requires c κs = tt
 
 enum-known-measured : tie.Need-enum-known-measured
 enum-known-measured c = search needs
@@ -26,10 +26,10 @@ returns-2 c =
     write-short _ _ _ (m .0) _ (m .1) (c .if1 .taken)
 
 version-of-requires : tie.Need-version-of-requires
-version-of-requires c κs = search needs
+version-of-requires c κs = tt
 
 block-size-requires : tie.Need-block-size-requires
-block-size-requires c κs = search needs
+block-size-requires c κs = tt
 
 put-file-requires : tie.Need-put-file-requires
 put-file-requires c κs =

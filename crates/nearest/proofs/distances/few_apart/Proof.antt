@@ -1,7 +1,6 @@
 -- `nearest::distances::few_apart` meets its contract. The invariant: the sum over the i bytes from `from` on.
 use Prim.Native.Nat.{_+_, _*_, _-_, _≤_}
 use native.Mathlib.Omega.{arith}
-use borrow.Author.Needs.{needs}
 use Rattle.nearest.proofs.Pairs.{Few, few-none, few-low, few-more, few-all}
 use Rattle.nearest.proofs.distances.few_apart.Statement.{statement}
 use Rattle.nearest.proofs.distances.few_apart.Tie as tie
@@ -28,7 +27,7 @@ shared-slice-read-apart : tie.Need-shared-slice-read-apart Inv-loop μ-loop
 shared-slice-read-apart c = omega (arith, c .before .before .before .before .before .before .before .pre .2 .even-room)
 
 apart-requires : tie.Need-apart-requires Inv-loop μ-loop
-apart-requires c κs = search needs
+apart-requires c κs = tt
 
 add-apart-2 : tie.Need-add-apart-2 Inv-loop μ-loop
 add-apart-2 c = omega (arith, c .before .before .before .before .before .before .before .before .pre .1)
@@ -37,7 +36,7 @@ shared-slice-read-apart-2 : tie.Need-shared-slice-read-apart-2 Inv-loop μ-loop
 shared-slice-read-apart-2 c = omega (arith, c .before .before .before .before .before .before .before .before .before .pre .2 .odd-room)
 
 apart-requires-2 : tie.Need-apart-requires-2 Inv-loop μ-loop
-apart-requires-2 c κs = search needs
+apart-requires-2 c κs = tt
 
 low : (c : tie.After-apart2 Inv-loop μ-loop) →
     c .before .before .before .before .before .before .loop .sum + (c .before .before .apart .result + c .apart2 .result) ≤

@@ -11,7 +11,7 @@ use Rattle.nearest.proofs.distances.lanes_apart.Statement.{statement}
 use Rattle.nearest.proofs.distances.lanes_apart.Tie as tie
 
 whole-bytes-requires : tie.Need-whole-bytes-requires
-whole-bytes-requires c κs = search needs
+whole-bytes-requires c κs = tt
 
 bytes-apart-requires : tie.Need-bytes-apart-requires
 bytes-apart-requires c κs =

@@ -13,25 +13,25 @@ use Rattle.nearest.proofs.distances.live_distances.Statement.{statement
 use Rattle.nearest.proofs.distances.live_distances.Tie as tie
 
 padded-dim-requires : tie.Need-padded-dim-requires
-padded-dim-requires c κs = search needs
+padded-dim-requires c κs = tt
 
 bytes-per-vector-requires : tie.Need-bytes-per-vector-requires
-bytes-per-vector-requires c κs = search needs
+bytes-per-vector-requires c κs = tt
 
 floats-requires : tie.Need-floats-requires
-floats-requires c κs = search needs
+floats-requires c κs = tt
 
 slice-aggregate-prepare : tie.Need-slice-aggregate-prepare
 slice-aggregate-prepare c = search needs
 
 prepare-requires : tie.Need-prepare-requires
-prepare-requires c κs = search needs
+prepare-requires c κs = tt
 
 boundaries-requires : tie.Need-boundaries-requires
-boundaries-requires c κs = search needs
+boundaries-requires c κs = tt
 
 bytes-requires : tie.Need-bytes-requires
-bytes-requires c κs = search needs
+bytes-requires c κs = tt
 
 sub-write-tops : tie.Need-sub-write-tops
 sub-write-tops c = omega arith

@@ -6,10 +6,10 @@ use Rattle.nearest.proofs.distances.slot_distance.Statement.{statement}
 use Rattle.nearest.proofs.distances.slot_distance.Tie as tie
 
 is-live-requires : tie.Need-is-live-requires
-is-live-requires c κs = search needs
+is-live-requires c κs = tt
 
 slot-codes-requires : tie.Need-slot-codes-requires
-slot-codes-requires c κs = search needs
+slot-codes-requires c κs = tt
 
 lanes-apart-requires : tie.Need-lanes-apart-requires
 lanes-apart-requires c κs = search needs

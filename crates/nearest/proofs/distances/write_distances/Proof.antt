@@ -6,7 +6,7 @@ use Rattle.nearest.proofs.distances.write_distances.Statement.{statemen
 use Rattle.nearest.proofs.distances.write_distances.Tie as tie
 
 bytes-requires : tie.Need-bytes-requires
-bytes-requires c κs = search needs
+bytes-requires c κs = tt
 
 slice-aggregate-every-second : tie.Need-slice-aggregate-every-second
 slice-aggregate-every-second c = search needs
@@ -15,7 +15,7 @@ every-second-requires : tie.Need-every-second-requires
 every-second-requires c κs = search needs
 
 bytes-requires-2 : tie.Need-bytes-requires-2
-bytes-requires-2 c κs = search needs
+bytes-requires-2 c κs = tt
 
 slice-aggregate-every-second-2 : tie.Need-slice-aggregate-every-second-2
 slice-aggregate-every-second-2 c = search needs

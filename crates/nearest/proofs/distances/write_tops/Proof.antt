@@ -5,7 +5,6 @@ use native.Mathlib.Omega.{arith}
 use mathlib.Core.List.{List}
 use lib.ListN.{length, getD}
 use lib.Ieee.{Float, nan}
-use borrow.Author.Needs.{needs}
 use Rattle.pattern.specs.Binary32.{_⊗_}
 use Rattle.lloyd.specs.Quantizer.{quantized}
 use Rattle.lloyd.proofs.Quantized.{quantized-le}
@@ -30,7 +29,7 @@ shared-slice-read-quantize-in : tie.Need-shared-slice-read-quantize-in Inv-loop 
 shared-slice-read-quantize-in c = omega arith
 
 quantize-in-requires : tie.Need-quantize-in-requires Inv-loop μ-loop
-quantize-in-requires c κs = search needs
+quantize-in-requires c κs = tt
 
 code-low : (bs : List Float) (x : Float) {code : ℕ} → length bs ≤ 15 → code ≡ quantized bs x → code ≤ 15
 code-low bs x few e = omega (arith, quantized-le bs x)

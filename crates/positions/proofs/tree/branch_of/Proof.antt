@@ -5,7 +5,7 @@ use Rattle.positions.proofs.tree.branch_of.Statement.{statement}
 use Rattle.positions.proofs.tree.branch_of.Tie as tie
 
 wide-requires : tie.Need-wide-requires
-wide-requires c κs = search needs
+wide-requires c κs = tt
 
 sub-result : tie.Need-sub-result
 sub-result c = search needs

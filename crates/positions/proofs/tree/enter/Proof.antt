@@ -20,7 +20,7 @@ shared-slice-read-position : tie.Need-shared-slice-read-position
 shared-slice-read-position c = search needs
 
 wide-requires : tie.Need-wide-requires
-wide-requires c κs = search needs
+wide-requires c κs = tt
 
 returns : tie.Need-returns
 returns c =

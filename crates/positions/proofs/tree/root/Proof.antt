@@ -15,7 +15,7 @@ add-mixed : tie.Need-add-mixed
 add-mixed c = search needs
 
 wide-requires : tie.Need-wide-requires
-wide-requires c κs = search needs
+wide-requires c κs = tt
 
 add-result : tie.Need-add-result
 add-result c = record { fits = root-fits _ _ (add-mixed (c .before) .fits) (c .wide .ensures .1) }

@@ -14,7 +14,7 @@ returns-2 : tie.Need-returns-2
 returns-2 c = vector-long _ _ _ _ (c .before .if1 .left) (c .if2 .taken)
 
 padded-dim-requires : tie.Need-padded-dim-requires
-padded-dim-requires c κs = search needs
+padded-dim-requires c κs = tt
 
 returns-3 : tie.Need-returns-3
 returns-3 c = no-power _ _ _ _ (c .before .before .before .if1 .left) (c .before .before .if2 .left) (omega arith) (λ e. c .if3 .taken (c .before .padded-dim .ensures ∙ e))
@@ -29,7 +29,7 @@ part-rotate-end : tie.Need-part-rotate-end
 part-rotate-end c = search needs
 
 rotate-requires : tie.Need-rotate-requires
-rotate-requires c κs = search needs
+rotate-requires c κs = tt
 
 same-length : tie.Need-same-length
 same-length c = search needs

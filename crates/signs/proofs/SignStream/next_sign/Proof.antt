@@ -8,7 +8,7 @@ use Rattle.signs.proofs.SignStream.next_sign.Statement.{statement}
 use Rattle.signs.proofs.SignStream.next_sign.Tie as tie
 
 scrambled-requires : tie.Need-scrambled-requires
-scrambled-requires c κs = search needs
+scrambled-requires c κs = tt
 
 mul-sign : tie.Need-mul-sign
 mul-sign c = search needs

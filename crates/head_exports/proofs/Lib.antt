@@ -1,0 +1,2 @@
+-- Laws of what is answered of a head.
+mod Head

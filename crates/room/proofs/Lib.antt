@@ -1,0 +1,3 @@
+-- Laws of the capacity.
+pub mod Least
+mod Rooms
