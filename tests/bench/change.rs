@@ -1,7 +1,7 @@
 //! Register: adding, compaction, files; and the transform by itself.
 use crate::clock::{race, timed_once};
 use crate::data::{self, Keys, Width};
-use crate::library::{self, Ours, N};
+use crate::sys::{self, Raw, N};
 use crate::look::Three;
 use crate::random::Random;
 use crate::rust::{Build, Rust, PUBLISHED, SCALAR};
@@ -11,7 +11,7 @@ use crate::same;
 const BATCH: usize = 16;
 const MOST_SLOTS: usize = 65_536;
 
-fn add_ours(ours: &mut Ours, kind: Keys, vectors: &[Vec<f32>]) -> f64 {
+fn add_ours(ours: &mut Raw, kind: Keys, vectors: &[Vec<f32>]) -> f64 {
     let record = ours.record;
     let n = record[N] as usize;
     let (seconds, ()) = timed_once(|| {
@@ -86,7 +86,7 @@ pub fn compact(dim: usize, width: Width, n: usize, kind: Keys) -> Three {
     data::key(&mut before.arrays, kind, n);
     let (scalar, published) = ((SCALAR.index_of)(&before), (PUBLISHED.index_of)(&before));
     let mut ours = before.clone();
-    same::equal("a compaction", ours.compact(), Ok(0));
+    same::equal("a compaction", ours.compact(), Ok(()));
     let mut right = scalar.copy();
     right.compact();
     if let Some(difference) = right.difference(&ours) {
@@ -131,7 +131,7 @@ pub fn files(dim: usize, width: Width, n: usize, kind: Keys) -> Files {
     let written = Three { ours: times[0], scalar: times[1], published: times[2] };
 
     let mut read = ours.clone();
-    same::equal(&format!("reading {what}"), read.from_bytes(&right), Ok(0));
+    same::equal(&format!("reading {what}"), read.from_bytes(&right), Ok(()));
     let difference = (SCALAR.from_bytes)(&right).map_or(Some("the Rust doesn't read it".to_string()), |index| index.difference(&read));
     if let Some(difference) = difference {
         same::report(&format!("reading {what}"), &difference);
@@ -157,7 +157,7 @@ pub fn fwht(length: usize) -> Three {
         (seconds / (VECTORS * TIMES) as f64, vectors)
     };
     let patterns = |vectors: Vec<Vec<f32>>| -> Vec<u32> { vectors.concat().iter().map(|x| x.to_bits()).collect() };
-    same::check(&format!("fwht of {length} entries"), patterns(run(library::fwht).1) == patterns(run(SCALAR.fwht).1), || "the bits differ".to_string());
-    let times = race(&mut [&mut || run(library::fwht).0, &mut || run(SCALAR.fwht).0, &mut || run(PUBLISHED.fwht).0]);
+    same::check(&format!("fwht of {length} entries"), patterns(run(sys::fwht).1) == patterns(run(SCALAR.fwht).1), || "the bits differ".to_string());
+    let times = race(&mut [&mut || run(sys::fwht).0, &mut || run(SCALAR.fwht).0, &mut || run(PUBLISHED.fwht).0]);
     Three { ours: times[0], scalar: times[1], published: times[2] }
 }

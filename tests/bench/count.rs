@@ -1,6 +1,6 @@
 //! One call of one case, for callgrind: it counts between entry and exit of `counted`.
 use crate::data::{self, Keys, Width};
-use crate::library::{self, CASCADE};
+use crate::sys::{self, CASCADE};
 use crate::random::Random;
 use crate::rust::SCALAR;
 use std::hint::black_box;
@@ -68,13 +68,13 @@ pub fn call(name: &str, ours: bool) -> bool {
         ("add", false) => counted(&mut || _ = black_box(rust.add(&v))),
         ("add_keyed", true) => counted(&mut || answer = index.add_keyed(key, &v)),
         ("add_keyed", false) => counted(&mut || _ = black_box(rust.add_keyed(key, &v))),
-        ("compact", true) => counted(&mut || answer = index.compact()),
+        ("compact", true) => counted(&mut || answer = index.compact().map(|()| 0)),
         ("compact", false) => counted(&mut || rust.compact()),
         ("to_bytes", true) => counted(&mut || answer = index.to_bytes(&mut file)),
         ("to_bytes", false) => counted(&mut || forget(rust.to_bytes())),
-        ("from_bytes", true) => counted(&mut || answer = index.from_bytes(&right)),
+        ("from_bytes", true) => counted(&mut || answer = index.from_bytes(&right).map(|()| 0)),
         ("from_bytes", false) => counted(&mut || forget((SCALAR.from_bytes)(&right))),
-        ("fwht", true) => counted(&mut || library::fwht(&mut v)),
+        ("fwht", true) => counted(&mut || sys::fwht(&mut v)),
         ("fwht", false) => counted(&mut || (SCALAR.fwht)(&mut v)),
         ("13", true) => counted(&mut || answer = index.search(&long, K, &mut slots, &mut scores).map_or_else(|number| if number == 1 { Ok(0) } else { Err(number) }, |_| Err(0))),
         _ => return false,

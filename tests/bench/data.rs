@@ -1,5 +1,5 @@
 //! Indexes filled by a fixed random generator: any codes, plausible scales, several kinds of keys.
-use crate::library::{Arrays, Ours, Record, LIVE, N};
+use crate::sys::{Arrays, Raw, Record, LIVE, N};
 use crate::random::Random;
 use std::collections::HashMap;
 
@@ -106,7 +106,7 @@ pub fn vector(random: &mut Random, dim: usize) -> Vec<f32> {
 }
 
 /// An index of `n` live slots without keys, in arrays with places for `room`.
-pub fn filled(dim: usize, width: Width, n: usize, room: usize) -> Ours {
+pub fn filled(dim: usize, width: Width, n: usize, room: usize) -> Raw {
     let mut random = Random::new((dim * 31 + n) as u64 * 8 + width.name().len() as u64 + width.bits() as u64);
     let bits = width.bits();
     let second = if width.is_residual() { room } else { 0 };
@@ -122,7 +122,7 @@ pub fn filled(dim: usize, width: Width, n: usize, room: usize) -> Ours {
         scales2: scales(&mut random, dim * 100, second),
     };
     let record: Record = [dim as u64, dim as u64, SEED, bits as u64, width.is_residual() as u64, n as u64, n as u64, 0];
-    Ours { record, arrays }
+    Raw { record, arrays }
 }
 
 /// Keys the live slots below `n` in one of the ways.
@@ -147,7 +147,7 @@ pub fn key(arrays: &mut Arrays, kind: Keys, n: usize) {
 }
 
 /// Makes each slot dead with the chance `share`.
-pub fn kill(ours: &mut Ours, share: f64) {
+pub fn kill(ours: &mut Raw, share: f64) {
     let mut random = Random::new(77);
     let n = ours.record[N] as usize;
     for slot in 0..n {
@@ -157,7 +157,7 @@ pub fn kill(ours: &mut Ours, share: f64) {
 }
 
 /// Leaves `count` live slots, spread evenly.
-pub fn spare(ours: &mut Ours, count: usize) {
+pub fn spare(ours: &mut Raw, count: usize) {
     let n = ours.record[N] as usize;
     ours.arrays.alive[..n].fill(0);
     (0..count).for_each(|i| ours.arrays.alive[i * n / count] = 1);

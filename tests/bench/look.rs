@@ -1,7 +1,7 @@
 //! Look-up: the searches, and refusal 13 by itself.
 use crate::clock::{race, repeats, timed, Times};
 use crate::data::{self, Keys, Width};
-use crate::library::{Arrays, Ours, BITS, CASCADE, DIM, N};
+use crate::sys::{Arrays, Raw, BITS, CASCADE, DIM, N};
 use crate::random::Random;
 use crate::rust::{Rust, PUBLISHED, SCALAR};
 use crate::same;
@@ -11,7 +11,7 @@ use std::mem::swap;
 /// One index in three forms, and a query.
 pub struct Look {
     what: String,
-    ours: RefCell<Ours>,
+    ours: RefCell<Raw>,
     scalar: Box<dyn Rust>,
     published: Box<dyn Rust>,
     query: Vec<f32>,
@@ -41,13 +41,13 @@ struct KeySet {
 }
 
 impl KeySet {
-    fn new(ours: &Ours, kind: Keys, n: usize) -> Self {
+    fn new(ours: &Raw, kind: Keys, n: usize) -> Self {
         let mut arrays = Arrays { alive: ours.arrays.alive.clone(), keys: vec![0; n], keyed: vec![false; n], held: vec![0; n], ..Default::default() };
         data::key(&mut arrays, kind, n);
         KeySet { keys: arrays.keys, keyed: arrays.keyed, held: arrays.held }
     }
 
-    fn exchange(&mut self, ours: &mut Ours) {
+    fn exchange(&mut self, ours: &mut Raw) {
         swap(&mut self.keys, &mut ours.arrays.keys);
         swap(&mut self.keyed, &mut ours.arrays.keyed);
         swap(&mut self.held, &mut ours.arrays.held);
@@ -78,7 +78,7 @@ impl Look {
         Look::of(ours, format!("{n} slots of {dim} entries, width {}, keys {}", width.name(), kind.name()))
     }
 
-    fn of(mut ours: Ours, what: String) -> Self {
+    fn of(mut ours: Raw, what: String) -> Self {
         let (dim, n) = (ours.record[DIM] as usize, ours.record[N] as usize);
         // At 4 bits every search can be made; nothing but a cascade reads the mark.
         ours.record[CASCADE] = (ours.record[BITS] == 4) as u64;

@@ -5,8 +5,6 @@ mod count;
 mod data;
 mod goals;
 mod groups;
-#[allow(dead_code)] // tests/limits uses more of it
-mod library;
 mod look;
 mod parts;
 #[allow(dead_code)] // the oracle uses more of it
@@ -17,6 +15,9 @@ mod rust;
 mod same;
 mod slopes;
 mod stack;
+#[allow(dead_code)] // the client calls more of it
+#[path = "../../client/src/sys.rs"]
+mod sys;
 mod table;
 
 use std::process::ExitCode;

@@ -1,5 +1,5 @@
 //! The two builds of the Rust core, behind one trait.
-use crate::library::Ours;
+use crate::sys::Raw;
 
 pub trait Rust {
     fn search(&self, query: &[f32], k: usize) -> Vec<(usize, f32)>;
@@ -15,12 +15,12 @@ pub trait Rust {
     /// Takes the last slots back until `n` are left. They are live, and the last that were added to their keys.
     fn cut(&mut self, n: usize);
     /// Where the index differs from a record and arrays; nothing where it doesn't.
-    fn difference(&self, ours: &Ours) -> Option<String>;
+    fn difference(&self, ours: &Raw) -> Option<String>;
 }
 
 /// A build: how its indexes are made, and its transform.
 pub struct Build {
-    pub index_of: fn(&Ours) -> Box<dyn Rust>,
+    pub index_of: fn(&Raw) -> Box<dyn Rust>,
     pub from_bytes: fn(&[u8]) -> Option<Box<dyn Rust>>,
     pub fwht: fn(&mut [f32]),
 }

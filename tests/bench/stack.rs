@@ -1,6 +1,6 @@
 //! How much stack each call needs: it is made on a thread whose stack was painted before, and the lowest place that lost its paint is looked for.
 use crate::data::{self, Keys, Width};
-use crate::library::{self, Answer, Ours, CASCADE};
+use crate::sys::{self, Answer, Raw, CASCADE};
 use crate::random::Random;
 use crate::same;
 use crate::table::{count, Table};
@@ -48,7 +48,7 @@ pub fn needed(mut call: impl FnMut() + Send) -> usize {
     })
 }
 
-fn index(dim: usize, width: Width, n: usize, room: usize, kind: Keys) -> Ours {
+fn index(dim: usize, width: Width, n: usize, room: usize, kind: Keys) -> Raw {
     let mut ours = data::filled(dim, width, n, room);
     data::key(&mut ours.arrays, kind, n);
     ours.record[CASCADE] = (width == Width::Four) as u64;
@@ -62,10 +62,10 @@ struct Stacks {
 
 impl Stacks {
     /// Makes a call that must be accepted, and notes its stack.
-    fn of(&mut self, name: &'static str, case: &str, mut call: impl FnMut() -> Answer + Send) {
-        let mut answer = Err(0);
-        let bytes = needed(|| answer = call());
-        same::check(name, answer.is_ok(), || format!("{case}: refused by {answer:?}"));
+    fn of<T>(&mut self, name: &'static str, case: &str, mut call: impl FnMut() -> Answer<T> + Send) {
+        let mut refusal = Some(0);
+        let bytes = needed(|| refusal = call().err());
+        same::check(name, refusal.is_none(), || format!("{case}: refused by {refusal:?}"));
         match self.most.iter_mut().find(|entry| entry.0 == name) {
             Some(entry) if entry.1 < bytes => *entry = (name, bytes, case.to_string()),
             Some(_) => {}
@@ -146,6 +146,26 @@ fn storing(stacks: &mut Stacks) {
     }
 }
 
+/// The calls about keys and single slots, which change marks and keys at most: over as many slots as there can be.
+fn keys(stacks: &mut Stacks) {
+    let query = data::vector(&mut Random::new(7), 4096);
+    let most_entries = index(4096, Width::Six, 100, 100, Keys::Random);
+    stacks.of("score", "width 6, 100 slots of 4,096 entries", || most_entries.score(50, &query));
+    for kind in [Keys::None, Keys::Shuffled, Keys::Random] {
+        let case = format!("65,536 slots, keys {}", kind.name());
+        let mut ours = index(256, Width::Residual, SLOTS, SLOTS, kind);
+        let key = ours.arrays.keys[SLOTS / 2];
+        stacks.of("key_of", &case, || ours.key_of(SLOTS / 2));
+        stacks.of("contains_key", &case, || ours.contains_key(key));
+        stacks.of("slot_at", &case, || ours.slot_at(key, 0));
+        stacks.of("score", &case, || ours.score(SLOTS / 2, &query[..256]));
+        stacks.of("file_length", &case, || ours.file_length());
+        stacks.of("relabel", &case, || ours.relabel(key, key ^ 1 << 63));
+        stacks.of("remove_keyed_at", &case, || ours.remove_keyed_at(key ^ 1 << 63, SLOTS / 2));
+        stacks.of("remove_keyed", &case, || ours.remove_keyed(key));
+    }
+}
+
 /// Each call where it needs most: as many slots as there can be, keys that don't rise, every slot listed, every entry.
 pub fn print() {
     let mut stacks = Stacks { most: Vec::new() };
@@ -153,10 +173,11 @@ pub fn print() {
     adding(&mut stacks);
     searches(&mut stacks);
     storing(&mut stacks);
+    keys(&mut stacks);
     let mut v = data::vector(&mut Random::new(5), 4096);
     stacks.of("fwht", "4,096 entries", || {
-        library::fwht(&mut v);
-        Ok(0)
+        sys::fwht(&mut v);
+        Ok(())
     });
     stacks.print();
 }

@@ -1,6 +1,6 @@
 // One build of the Rust core, here named vecq: its index from a record and arrays, and its calls. Included once for each build.
 use super::Rust;
-use crate::library::{Ours, BITS, CASCADE, DIM, LIVE, N, RESIDUAL, SEED, WORKING_DIM};
+use crate::sys::{Raw, BITS, CASCADE, DIM, LIVE, N, RESIDUAL, SEED, WORKING_DIM};
 use std::collections::HashMap;
 use vecq::store::VecqIndex;
 
@@ -13,7 +13,7 @@ fn patterns(floats: &[f32]) -> Vec<u32> {
 }
 
 /// The Rust's index that a record and arrays stand for, where they fit.
-pub fn index_of(ours: &Ours) -> Box<dyn Rust> {
+pub fn index_of(ours: &Raw) -> Box<dyn Rust> {
     let (record, arrays) = (&ours.record, &ours.arrays);
     let n = record[N] as usize;
     let mut index = VecqIndex::with_working_dim(record[DIM] as usize, record[WORKING_DIM] as usize, record[SEED]);
@@ -143,7 +143,7 @@ impl Rust for VecqIndex {
         self.scales2.truncate(n);
     }
 
-    fn difference(&self, ours: &Ours) -> Option<String> {
+    fn difference(&self, ours: &Raw) -> Option<String> {
         let (record, arrays) = (&ours.record, &ours.arrays);
         let (n, used) = (self.n, self.n * self.bytes_per_vector());
         let fields = [

@@ -2,15 +2,11 @@
 #[path = "../oracle/halves.rs"]
 mod halves;
 
-use std::time::Instant;
+#[allow(dead_code)] // the client calls more of it
+#[path = "../../client/src/sys.rs"]
+mod sys;
 
-#[link(name = "leaf_exports", kind = "static")]
-extern "C" {
-    fn vecq_f32_to_f16_bits(x: u32) -> u16;
-    fn vecq_f16_bits_to_f32(h: u16) -> u32;
-    fn vecq_sqrt(x: f32) -> f32;
-    fn vecq_quantize(x: f32, bits: u8) -> u8;
-}
+use std::time::Instant;
 
 const THREADS: u64 = 2;
 const ALL: u64 = 1 << 32;
@@ -22,20 +18,20 @@ fn main() {
     let mut differences = 0;
     if wanted("f16_bits_to_f32") {
         differences += compare("f16_bits_to_f32", 1 << 16, |h| {
-            let (ours, right) = (unsafe { vecq_f16_bits_to_f32(h as u16) }, halves::reading(h as u16));
+            let (ours, right) = (sys::binary32(h as u16), halves::reading(h as u16));
             (ours == right, ours.into(), right.into())
         });
     }
     if wanted("f32_to_f16_bits") {
         differences += compare("f32_to_f16_bits", ALL, |p| {
-            let (ours, theirs) = (unsafe { vecq_f32_to_f16_bits(p) }, vecq::format::f32_to_f16_bits(f32::from_bits(p)));
+            let (ours, theirs) = (sys::half(p), vecq::format::f32_to_f16_bits(f32::from_bits(p)));
             (ours == theirs, ours.into(), theirs.into())
         });
     }
     if wanted("sqrt") {
         differences += compare("sqrt", ALL, |p| {
             let x = f32::from_bits(p);
-            let (ours, theirs) = (unsafe { vecq_sqrt(x) }.to_bits(), x.sqrt().to_bits());
+            let (ours, theirs) = (sys::sqrt(x).to_bits(), x.sqrt().to_bits());
             (ours == theirs || is_nan(ours) && is_nan(theirs), ours.into(), theirs.into())
         });
     }
@@ -43,7 +39,7 @@ fn main() {
         if wanted(name) {
             differences += compare(name, ALL, |p| {
                 let x = f32::from_bits(p);
-                let (ours, theirs) = (unsafe { vecq_quantize(x, bits) }, vecq::lloyd::quantize(x, bits));
+                let (ours, theirs) = (sys::quantize(x, bits), vecq::lloyd::quantize(x, bits));
                 (ours == theirs, ours.into(), theirs.into())
             });
         }

@@ -1,7 +1,7 @@
 //! Adding up to 65,536 slots and past them.
 use crate::data::{self, Keys, Width, KEYS, WIDTHS};
 use crate::kept::{like, refused};
-use crate::library::{Arrays, Ours, LIVE, N};
+use crate::sys::{Arrays, Raw, LIVE, N};
 use crate::random::Random;
 use crate::rust::SCALAR;
 use crate::{same, MOST_SLOTS};
@@ -17,8 +17,8 @@ fn name(width: Width, kind: Keys) -> String {
 /// From an empty index to a full one by `add` alone.
 pub fn one_after_another() {
     let mut ours = data::filled(2, Width::Four, 0, LONG);
-    same::equal("new", ours.new(2, 9), Ok(0));
-    same::equal("set_bits", ours.set_bits(4), Ok(0));
+    same::equal("new", ours.new(2, 9), Ok(()));
+    same::equal("set_bits", ours.set_bits(4), Ok(()));
     let mut rust = (SCALAR.index_of)(&ours);
     let mut random = Random::new(21);
     for slot in 0..MOST_SLOTS {
@@ -62,20 +62,20 @@ pub fn the_last() {
 }
 
 /// Places freed by removal serve again after compaction.
-fn freed(what: &str, mut ours: Ours, kind: Keys, vector: &[f32]) {
+fn freed(what: &str, mut ours: Raw, kind: Keys, vector: &[f32]) {
     data::kill(&mut ours, 0.001);
     data::key(&mut ours.arrays, kind, MOST_SLOTS);
     refused(what, &mut ours, 8, |o| o.add(vector));
     let mut rust = (SCALAR.index_of)(&ours);
-    same::equal(what, ours.compact(), Ok(0));
+    same::equal(what, ours.compact(), Ok(()));
     rust.compact();
-    if ours.record[crate::library::RESIDUAL] == 0 {
+    if ours.record[crate::sys::RESIDUAL] == 0 {
         like(what, &ours, rust.as_ref());
     }
     let live = ours.record[LIVE] as usize;
     same::check(what, live < MOST_SLOTS, || "nothing was dead".to_string());
     same::equal(what, ours.add(vector), Ok(live));
-    if ours.record[crate::library::RESIDUAL] == 0 {
+    if ours.record[crate::sys::RESIDUAL] == 0 {
         rust.add(vector);
         like(what, &ours, rust.as_ref());
     }

@@ -1,7 +1,7 @@
 //! Files of as many slots as there may be.
 use crate::data::{self, Keys, Width, WIDTHS};
 use crate::kept::{like, refused};
-use crate::library::Ours;
+use crate::sys::Raw;
 use crate::random::Random;
 use crate::rust::SCALAR;
 use crate::{same, MOST_SLOTS};
@@ -11,7 +11,7 @@ const DIM: usize = 32;
 const COUNT: std::ops::Range<usize> = 20..24;
 
 /// Arrays with places for `room` slots that hold other things.
-fn elsewhere(width: Width, room: usize) -> Ours {
+fn elsewhere(width: Width, room: usize) -> Raw {
     let mut ours = data::filled(DIM, width, 3, room);
     ours.arrays.keyed[0] = true;
     ours.arrays.held.fill(9);
@@ -45,7 +45,7 @@ fn whole(width: Width, kind: Keys) {
     for room in [MOST_SLOTS, MOST_SLOTS + 3] {
         let mut read = elsewhere(width, room);
         let before = read.arrays.clone();
-        same::equal(&what, read.from_bytes(&file), Ok(0));
+        same::equal(&what, read.from_bytes(&file), Ok(()));
         like(&what, &read, rust.as_ref());
         let block = data::block_size(DIM, width.bits());
         let kept = read.arrays.codes[MOST_SLOTS * block..] == before.codes[MOST_SLOTS * block..] && read.arrays.scales[MOST_SLOTS..] == before.scales[MOST_SLOTS..];

@@ -8,8 +8,6 @@ mod sizes;
 #[allow(dead_code)] // the benchmark uses more of it
 #[path = "../bench/data.rs"]
 mod data;
-#[path = "../bench/library.rs"]
-mod library;
 #[allow(dead_code)] // the oracle uses more of it
 #[path = "../oracle/random.rs"]
 mod random;
@@ -18,6 +16,9 @@ mod random;
 mod rust;
 #[path = "../bench/same.rs"]
 mod same;
+#[allow(dead_code)] // the client calls more of it
+#[path = "../../client/src/sys.rs"]
+mod sys;
 
 use std::process::ExitCode;
 use std::time::Instant;

@@ -1,7 +1,7 @@
 //! The places of results: how many are needed, and that those past the answer are kept.
 use crate::data::{self, Keys, Width, WIDTHS};
 use crate::kept::refused;
-use crate::library::{Answer, Ours, CASCADE};
+use crate::sys::{Answer, Raw, CASCADE};
 use crate::random::Random;
 use crate::rust::{Rust, SCALAR};
 use crate::{same, MOST_SLOTS};
@@ -11,25 +11,25 @@ const MARK: u32 = 0xFFFF_0001;
 const SCORE: f32 = -77.5;
 
 /// One of the searches: it writes names and scores, and says how many.
-type Search = fn(&Ours, &[f32], usize, &mut [u64], &mut [f32]) -> Answer;
+type Search = fn(&Raw, &[f32], usize, &mut [u64], &mut [f32]) -> Answer<usize>;
 
 /// The searches by slot write slots of 32 bits: they go through an array of their own, of the same length.
-fn by_slot(names: &mut [u64], search: impl FnOnce(&mut [u32]) -> Answer) -> Answer {
+fn by_slot(names: &mut [u64], search: impl FnOnce(&mut [u32]) -> Answer<usize>) -> Answer<usize> {
     let mut slots: Vec<u32> = names.iter().map(|&name| name as u32).collect();
     let answer = search(&mut slots);
     names.iter_mut().zip(slots).for_each(|(name, slot)| *name = slot as u64);
     answer
 }
 
-fn search(ours: &Ours, query: &[f32], k: usize, names: &mut [u64], scores: &mut [f32]) -> Answer {
+fn search(ours: &Raw, query: &[f32], k: usize, names: &mut [u64], scores: &mut [f32]) -> Answer<usize> {
     by_slot(names, |slots| ours.search(query, k, slots, scores))
 }
 
-fn search_keyed(ours: &Ours, query: &[f32], k: usize, names: &mut [u64], scores: &mut [f32]) -> Answer {
+fn search_keyed(ours: &Raw, query: &[f32], k: usize, names: &mut [u64], scores: &mut [f32]) -> Answer<usize> {
     ours.search_keyed(query, k, names, scores)
 }
 
-fn search_cascade(ours: &Ours, query: &[f32], k: usize, names: &mut [u64], scores: &mut [f32]) -> Answer {
+fn search_cascade(ours: &Raw, query: &[f32], k: usize, names: &mut [u64], scores: &mut [f32]) -> Answer<usize> {
     by_slot(names, |slots| ours.search_cascade(query, k, 30, slots, scores))
 }
 
@@ -61,8 +61,8 @@ pub fn unequal() {
     }
 }
 
-fn places(what: &str, ours: &mut Ours, call: Search, query: &[f32], k: usize, right: &[(u64, f32)]) {
-    let needed = k.clamp(1, ours.record[crate::library::LIVE] as usize);
+fn places(what: &str, ours: &mut Raw, call: Search, query: &[f32], k: usize, right: &[(u64, f32)]) {
+    let needed = k.clamp(1, ours.record[crate::sys::LIVE] as usize);
     for (names, scores) in [(needed, needed), (needed, needed + 3), (needed + 3, needed), (needed, 2 * needed + 50), (2 * needed + 50, needed)] {
         let (mut list, mut values) = (vec![MARK as u64; names], vec![SCORE; scores]);
         let before = ours.clone();

@@ -1,7 +1,7 @@
 //! As many entries as there may be.
 use crate::data::{self, Keys, Width, WIDTHS};
 use crate::kept::{like, refused};
-use crate::library::{self, Ours, CASCADE};
+use crate::sys::{self, Raw, CASCADE};
 use crate::random::Random;
 use crate::rust::{Rust, SCALAR};
 use crate::{same, MOST_DIM, MOST_SLOTS};
@@ -28,7 +28,7 @@ fn transforms() {
     for length in (0..=12).map(|power| 1 << power).chain([0, 3, 4095]) {
         let mut v = data::vector(&mut random, length);
         let mut right = v.clone();
-        library::fwht(&mut v);
+        sys::fwht(&mut v);
         if length.is_power_of_two() {
             (SCALAR.fwht)(&mut right);
         }
@@ -37,10 +37,10 @@ fn transforms() {
     }
 }
 
-fn make(width: Width, working: usize) -> Ours {
+fn make(width: Width, working: usize) -> Raw {
     let mut ours = data::filled(MOST_DIM, width, 0, SLOTS);
     let made = if width.is_residual() { ours.with_residual(MOST_DIM, 77) } else { ours.with_working_dim(MOST_DIM, working, 77).and_then(|_| ours.set_bits(width.bits())) };
-    same::equal("making", made, Ok(0));
+    same::equal("making", made, Ok(()));
     ours
 }
 
@@ -68,7 +68,7 @@ fn every_call(width: Width, working: usize) {
     let query = vector();
     lists(&what, &ours, rust.as_ref(), &query);
     if width == Width::Four {
-        same::equal(&what, ours.enable_cascade(), Ok(0));
+        same::equal(&what, ours.enable_cascade(), Ok(()));
         rust.enable_cascade();
         lists(&what, &ours, rust.as_ref(), &query);
     }
@@ -78,12 +78,12 @@ fn every_call(width: Width, working: usize) {
     same::equal(&what, ours.to_bytes(&mut file), Ok(right.len()));
     same::check(&what, file == right, || "the bytes differ".to_string());
     let mut read = make(width, working);
-    same::equal(&what, read.from_bytes(&file), Ok(0));
+    same::equal(&what, read.from_bytes(&file), Ok(()));
     like(&what, &read, (SCALAR.from_bytes)(&right).expect("the Rust reads what it wrote").as_ref());
 }
 
 /// Every search that the index has.
-fn lists(what: &str, ours: &Ours, rust: &dyn Rust, query: &[f32]) {
+fn lists(what: &str, ours: &Raw, rust: &dyn Rust, query: &[f32]) {
     let (mut slots, mut names, mut scores) = ([0; SLOTS], [0; SLOTS], [0.0; SLOTS]);
     for k in [1, 5, SLOTS] {
         let right = rust.search(query, k);
