@@ -29,16 +29,10 @@ pub fn equal<T: PartialEq + Debug>(what: &str, ours: T, right: T) {
     check(what, ours == right, || format!("ours is {ours:?} and not {right:?}"));
 }
 
-/// A score's order number (document 01).
-pub fn order_number(score: f32) -> u32 {
-    let bits = score.to_bits();
-    if bits >> 31 == 1 { !bits } else { bits ^ 0x8000_0000 }
-}
-
 /// A list as document 01 compares it: names and score bits as a set, then the order between unequal scores. Both say that the lists agree once
 /// equal scores are put in the order of their names.
 pub fn canonical<T: Ord + Copy>(list: &[(T, f32)]) -> Vec<(u32, T)> {
-    let mut list: Vec<(u32, T)> = list.iter().map(|&(name, score)| (!order_number(score), name)).collect();
+    let mut list: Vec<(u32, T)> = list.iter().map(|&(name, score)| (score.to_bits(), name)).collect();
     let mut at = 0;
     while at < list.len() {
         let end = at + list[at..].iter().take_while(|e| e.0 == list[at].0).count();

@@ -1,4 +1,5 @@
 //! What the Rust answers to a script of the program `exercise`, line by line, and which lines are outside the comparison (docs/COMPARISON.md).
+use crate::choice::{chosen, has_minus_zero, order_number};
 use crate::halves::{reading, subnormal};
 use crate::language::{self, Call, Line};
 use crate::model::{block_size, dump, fits, Arrays, Record, MOST_DIM, MOST_IN_USE};
@@ -26,8 +27,8 @@ pub enum Reason {
     WidthCall,
     /// "ours": the IEEE value of a subnormal half
     SubnormalHalf,
-    /// a key has both +0 and -0 in a keyed search
-    BothZeros,
+    /// a score to be ranked is -0 (document 02, Req 04)
+    MinusZero,
     /// `set` or `field` led where no call of the Rust does
     Poked,
 }
@@ -41,7 +42,7 @@ impl fmt::Display for Reason {
             Reason::MovedResidual => write!(f, "ours, residual moved"),
             Reason::WidthCall => write!(f, "ours, width call and cascade"),
             Reason::SubnormalHalf => write!(f, "ours, subnormal half"),
-            Reason::BothZeros => write!(f, "a key with both zeros"),
+            Reason::MinusZero => write!(f, "a score is -0"),
             Reason::Poked => write!(f, "set by hand"),
         }
     }
@@ -123,12 +124,6 @@ fn fault(record: &Record, v: &[f32]) -> Option<u8> {
         _ if sum.is_infinite() => Some(3),
         _ => None,
     }
-}
-
-/// "its 32 bits, inverted if the top bit is set, else with the top bit flipped"
-fn order_number(score: f32) -> u32 {
-    let p = score.to_bits();
-    if p >> 31 == 1 { !p } else { p ^ 0x8000_0000 }
 }
 
 /// "The list falls by order number, equals by rising slot (ours: the Rust leaves equal scores in heap order)"
@@ -298,10 +293,12 @@ impl Driver {
                 says("ok")
             }
             Call::Score(slot, query) => self.score(slot, &query),
-            Call::Search { k, places, query } => self.search(k, places, &query, |index| {
-                says(&list(&arranged(index.search(&query, k))))
+            Call::Search { k, places, query } => self.search(k, places, &query, |index, hits| {
+                (list(&arranged(index.search(&query, k))), list(hits))
             }),
-            Call::SearchKeyed { k, places, query } => self.search(k, places, &query, |index| keyed_list(index, &query, k)),
+            Call::SearchKeyed { k, places, query } => self.search(k, places, &query, |index, hits| {
+                (list(&keyed_list(index, &query, k)), list(&by_key(index, hits)))
+            }),
             Call::SearchCascade { k, r, places, query } => self.search_cascade(k, r, places, &query),
             Call::Compact => self.compact(),
             Call::Length => says(&format!("length {:x}", self.index.to_bytes().len())),
@@ -425,25 +422,38 @@ impl Driver {
         (0..self.record.n).filter(|&slot| self.index.alive[slot]).collect()
     }
 
-    fn any_nan(&self, query: &[f32], slots: &[usize]) -> bool {
+    fn scores(&self, query: &[f32], slots: Vec<usize>) -> Vec<(usize, f32)> {
         let query = self.index.prepare_query(query);
-        slots.iter().any(|&slot| self.index.score(&query, slot).is_nan())
+        slots.into_iter().map(|slot| (slot, self.index.score(&query, slot))).collect()
     }
 
-    fn search(&self, k: usize, places: usize, query: &[f32], call: impl FnOnce(&VecqIndex) -> Answer) -> Answer {
+    /// `lists` gives the Rust's list, and by document 01 that of these hits.
+    fn search(&self, k: usize, places: usize, query: &[f32], lists: impl Fn(&VecqIndex, &[(usize, f32)]) -> (String, String)) -> Answer {
+        let call = |index: &mut VecqIndex| lists(index, &[]);
         if self.short(k, places) {
             return lacks(13);
         }
         if let Some(number) = fault(&self.record, query) {
-            return self.faulty(number, |index| call(index));
+            return self.faulty(number, call);
         }
         if self.tiny() && self.record.live > 0 {
-            return self.stopped(10, |index| call(index));
+            return self.stopped(10, call);
         }
-        if self.any_nan(query, &self.live_slots()) {
+        let scores = self.scores(query, self.live_slots());
+        self.ranked(&scores, k, |hits| lists(&self.index, hits))
+    }
+
+    /// 12, or the list: the Rust's, unless a score is -0. Where it is the Rust's, ours by document 01 is the same.
+    fn ranked(&self, scores: &[(usize, f32)], k: usize, lists: impl FnOnce(&[(usize, f32)]) -> (String, String)) -> Answer {
+        if scores.iter().any(|hit| hit.1.is_nan()) {
             return lacks(12);
         }
-        call(&self.index)
+        let (theirs, ours) = lists(&chosen(scores, k));
+        if has_minus_zero(scores) {
+            return Answer::Outside(Reason::MinusZero, ours);
+        }
+        assert_eq!(theirs, ours, "the Rust's choice of slots is not document 01's");
+        Answer::Rust(theirs)
     }
 
     fn search_cascade(&self, k: usize, r: usize, places: usize, query: &[f32]) -> Answer {
@@ -464,43 +474,43 @@ impl Driver {
             return self.stopped(10, |index| call(index));
         }
         // "its 12 over candidates only"
-        if self.any_nan(query, &self.live_slots()) && self.any_nan(query, &self.candidates(k, r, query)) {
-            return lacks(12);
-        }
-        says(&list(&arranged(call(&self.index))))
+        let scores = self.scores(query, self.candidates(k, r, query));
+        self.ranked(&scores, k, |hits| (list(&arranged(call(&self.index))), list(hits)))
     }
 
-    /// The slots that a cascade scores: all that the Rust lists of an index with the same codes and sound scales, asked for as many as it scores.
+    /// The slots that a cascade scores, in slot order: all that the Rust lists of an index with the same codes and sound scales, asked for as many as it scores.
     fn candidates(&self, k: usize, r: usize, query: &[f32]) -> Vec<usize> {
         let mut sound = self.index.clone();
         sound.scales.fill(1.0);
         sound.scales2.fill(1.0);
         let r = r.max(k);
-        sound.search_cascade(query, r, r).into_iter().map(|hit| hit.0).collect()
+        let mut slots: Vec<usize> = sound.search_cascade(query, r, r).into_iter().map(|hit| hit.0).collect();
+        slots.sort_unstable();
+        slots
     }
 }
 
-/// The Rust's keyed list in our order. Its pairs are those that the slots of its full search give, but for a key with both +0 and -0, of which the Rust's
-/// heap order picks one.
-fn keyed_list(index: &VecqIndex, query: &[f32], k: usize) -> Answer {
+/// "drops unkeyed hits and repeats"
+fn by_key(index: &VecqIndex, hits: &[(usize, f32)]) -> Vec<(u64, f32)> {
     let mut pairs: Vec<(u64, f32)> = Vec::new();
-    for (slot, score) in arranged(index.search(query, k)) {
+    for &(slot, score) in hits {
         if let Some(key) = index.key_of(slot).filter(|&key| pairs.iter().all(|pair| pair.0 != key)) {
             pairs.push((key, score));
         }
     }
+    pairs
+}
+
+/// The Rust's keyed list in our order: its pairs are those that the slots of its full search give. Of a key with both zeros its heap order picks one.
+fn keyed_list(index: &VecqIndex, query: &[f32], k: usize) -> Vec<(u64, f32)> {
+    let pairs = by_key(index, &arranged(index.search(query, k)));
     let set = |pairs: &[(u64, f32)]| {
-        let mut set: Vec<(u64, u32)> = pairs.iter().map(|&(key, score)| (key, score.to_bits())).collect();
+        let mut set: Vec<(u64, u32)> = pairs.iter().map(|&(key, score)| (key, (score + 0.0).to_bits())).collect();
         set.sort_unstable();
         set
     };
-    let theirs = index.search_keyed(query, k);
-    if set(&theirs) == set(&pairs) {
-        return says(&list(&pairs));
-    }
-    let unsigned = |pairs: &[(u64, f32)]| set(&pairs.iter().map(|&(key, score)| (key, score + 0.0)).collect::<Vec<_>>());
-    assert_eq!(unsigned(&theirs), unsigned(&pairs), "the Rust's keyed search is not that of its full search");
-    Answer::Outside(Reason::BothZeros, list(&pairs))
+    assert_eq!(set(&index.search_keyed(query, k)), set(&pairs), "the Rust's keyed search is not that of its full search");
+    pairs
 }
 
 fn number_of(error: &Error) -> u8 {

@@ -1,4 +1,5 @@
 //! The lists of the program `encodings`: encodings, prepared queries, scores and order numbers against the Rust.
+use crate::choice::order_number;
 use crate::list::List;
 use crate::random::Random;
 use crate::text::{bytes, eight, pattern, vector};
@@ -139,14 +140,10 @@ fn score(list: &mut List, h: Header, stage: (u32, &[u8]), stage2: (u32, &[u8]), 
     list.ask(line, answer);
 }
 
-/// "its 32 bits, inverted if the top bit is set, else with the top bit flipped" (document 01). In the Rust it is part of the search and cannot be called.
-fn order_number(p: u32) -> u32 {
-    if p >> 31 == 1 { !p } else { p ^ 0x8000_0000 }
-}
-
+/// In the Rust the order number is part of the search and cannot be called.
 fn order(list: &mut List, p: u32) {
     assert_eq!(pattern(f32::from_bits(p)), p, "no NaN");
-    list.ask(format!("order {p:x}"), format!("{:x}", order_number(p)));
+    list.ask(format!("order {p:x}"), format!("{:x}", order_number(f32::from_bits(p))));
 }
 
 // ---- vectors
@@ -444,13 +441,14 @@ fn score_edges(list: &mut List) {
 }
 
 fn orders(list: &mut List) {
-    list.section("order: by document 01's sentence (the Rust's is inside its search); the numbers fall in as f32::total_cmp has the scores");
+    list.section("order: by the sentences of documents 01 and 02 (the Rust's is inside its search); of any two numbers one is the lower where f32's < has its score so");
     let mut random = Random::new(24);
     let edges = [0, 1, 0x007F_FFFF, 0x0080_0000, 0x3F7F_FFFF, 0x3F80_0000, 0x3F80_0001, 0x7F7F_FFFF, 0x7F80_0000];
     let others = (0..200).map(|_| random.pattern()).filter(|&p| pattern(f32::from_bits(p)) == p).collect::<Vec<_>>();
     let mut all: Vec<u32> = edges.into_iter().flat_map(|p: u32| [p, p | 0x8000_0000]).chain(others).collect();
     all.sort_by(|&a, &b| f32::from_bits(a).total_cmp(&f32::from_bits(b)));
-    assert!(all.windows(2).all(|w| order_number(w[0]) <= order_number(w[1])));
+    let by_value = |a: f32, b: f32| a.partial_cmp(&b) == Some(order_number(a).cmp(&order_number(b)));
+    assert!(all.iter().all(|&a| all.iter().all(|&b| by_value(f32::from_bits(a), f32::from_bits(b)))));
     for p in all {
         order(list, p);
     }

@@ -93,6 +93,7 @@ pub fn list() -> List {
     searches(&mut fixed);
     ties(&mut fixed);
     keyed_searches(&mut fixed);
+    zeros(&mut fixed);
     cascades(&mut fixed);
     search_refusals(&mut fixed);
     files(&mut fixed);
@@ -530,12 +531,23 @@ fn scores(f: &mut Fixed) {
 // ---- searches
 
 /// The three searches of one query, k and r, with as many places as they need and more. `cascade` says whether it is on.
-fn search_all(f: &mut Fixed, k: usize, r: usize, query: &str, cascade: bool) {
+fn search_lines(f: &Fixed, k: usize, r: usize, query: &str, cascade: bool) -> Vec<String> {
     let need = k.max(1).min(f.driver.record.live);
-    f.ask(format!("search {k:x} {need:x} {query}"));
-    f.ask(format!("search_keyed {k:x} {:x} {query}", need + 3));
+    let mut lines = vec![format!("search {k:x} {need:x} {query}"), format!("search_keyed {k:x} {:x} {query}", need + 3)];
     if cascade {
-        f.ask(format!("search_cascade {k:x} {r:x} {:x} {query}", need + 1));
+        lines.push(format!("search_cascade {k:x} {r:x} {:x} {query}", need + 1));
+    }
+    lines
+}
+
+fn search_all(f: &mut Fixed, k: usize, r: usize, query: &str, cascade: bool) {
+    search_lines(f, k, r, query, cascade).into_iter().for_each(|line| f.ask(line));
+}
+
+/// The same where a score may be -0, so that lists may be outside the comparison.
+fn search_zeros(f: &mut Fixed, k: usize, r: usize, query: &str, cascade: bool) {
+    for line in search_lines(f, k, r, query, cascade) {
+        f.either(line);
     }
 }
 
@@ -638,7 +650,7 @@ fn ties(f: &mut Fixed) {
         with_scales(f, scales);
         for query in [nth(4, 1), nth(4, 2)] {
             for k in 0..=scales.len() + 1 {
-                search_all(f, k, k, &query, true);
+                search_zeros(f, k, k, &query, true);
             }
         }
     }
@@ -669,18 +681,59 @@ fn keyed_searches(f: &mut Fixed) {
         f.ask(format!("add {}", nth(4, number)));
     }
     f.ask(format!("search_keyed 2 2 {}", nth(4, 1)));
-    f.label("a key whose slots score +0 and -0: the order is document 01's");
-    f.ask("new 4 1");
-    for slot in 0..2 {
-        f.ask(format!("add_multi 7 {}", nth(4, 1)));
-        f.ask(format!("set scales {slot} {:x}", (slot as u32) << 31));
+}
+
+/// Document 02, Req 04: "two equal looking lines should then follow slot order", each with its own sign. Six slots of one vector that the query is at right angles to, so
+/// that its products cancel to +0, and the scale's sign is the score's.
+fn zeros(f: &mut Fixed) {
+    f.section("both zeros rank alike (document 02, Req 04): scales of -0 and +0, products that cancel; the lists are stated");
+    let (vector, across) = (v(&[1.0, 0.0]), v(&[0.0, 1.0]));
+    let scales: [u32; 6] = [0x8000_0000, 0, 0xbf80_0000, 0x3f80_0000, 0, 0x8000_0000];
+    for (making, width) in [("new", 4), ("new", 5), ("new", 6), ("residual", 4)] {
+        f.label(&format!("{making}, {width} bits"));
+        f.lend(6, 2);
+        f.asks(&[&format!("{making} 2 1"), &format!("bits {width}")]);
+        for (slot, key) in [7, 7, 8, 9, 7, 8].into_iter().enumerate() {
+            f.ask(format!("add_multi {key} {vector}"));
+            f.ask(format!("set scales {slot} {:x}", scales[slot]));
+            f.ask(format!("set scales2 {slot} {:x}", scales[slot]));
+        }
+        for slot in 0..6 {
+            f.ask(format!("score {slot} {across}"));
+        }
+        let all = "list 0:80000000 1:00000000 2:80000000 3:00000000 4:00000000 5:80000000";
+        f.told(format!("search 6 6 {across}"), all);
+        f.told(format!("search 0 1 {across}"), "list 0:80000000");
+        f.told(format!("search 2 2 {across}"), "list 0:80000000 1:00000000");
+        f.told(format!("search_keyed 6 6 {across}"), "list 7:80000000 8:80000000 9:00000000");
+        f.told(format!("search_keyed 2 2 {across}"), "list 7:80000000");
+        if width == 4 {
+            f.ask("enable");
+            f.told(format!("search_cascade 6 6 6 {across}"), all);
+            f.told(format!("search_cascade 2 3 2 {across}"), "list 0:80000000 1:00000000");
+            f.told(format!("search_cascade 1 2 1 {across}"), "list 0:80000000");
+        }
+        f.label("others above and below the zeros: a later slot above them displaces the lowest-numbered zero");
+        for query in [&vector, &v(&[-1.0, 0.0])] {
+            for k in 0..=7 {
+                search_zeros(f, k, k, query, width == 4);
+            }
+        }
+        f.label("without slot 3, compacted, then written and read: slot order is the new one");
+        f.asks(&["remove 9"]);
+        f.either("compact");
+        let rest = "list 0:80000000 1:00000000 2:80000000 3:00000000 4:80000000";
+        f.told(format!("search 5 5 {across}"), rest);
+        let file = f.either("write 1000");
+        f.ask(format!("read {}", file.strip_prefix("bytes ").expect("a file")));
+        f.told(format!("search 5 5 {across}"), rest);
+        f.told(format!("search_keyed 5 5 {across}"), "list 7:80000000 8:80000000");
     }
-    let (query, other) = (nth(4, 1), v(&[1.0, -2.0, 3.0, 4.0]));
-    f.ask(format!("score 0 {query}"));
-    f.ask(format!("score 1 {query}"));
-    for query in [query, other] {
-        f.either(format!("search_keyed 2 2 {query}"));
-    }
+    f.label("a cascade counts its candidates' scores only: the slot of score -0 is none at r 1, and is one at r 2");
+    f.asks(&["new 2 1", "bits 4", &format!("add {vector}"), &format!("add {}", v(&[-1.0, 0.0])), "set scales 0 0", "set scales 1 0", "enable"]);
+    f.ask(format!("search_cascade 1 1 1 {vector}"));
+    f.told(format!("search_cascade 2 2 2 {vector}"), "list 0:00000000 1:80000000");
+    f.told(format!("search 2 2 {vector}"), "list 0:00000000 1:80000000");
 }
 
 fn cascades(f: &mut Fixed) {
@@ -762,7 +815,7 @@ fn search_refusals(f: &mut Fixed) {
     search_all(f, 2, 2, &w, true);
     f.label("an infinite scale times a score of 0 is a NaN");
     f.asks(&["set scales 0 7f800000", "set scales 2 0"]);
-    search_all(f, 2, 2, &w, true);
+    search_zeros(f, 2, 2, &w, true);
     f.label("an unkeyed slot's NaN counts in a keyed search");
     f.ask(format!("add {}", nth(4, 4)));
     f.ask("set scales 3 7fc00000");
@@ -785,8 +838,8 @@ fn search_refusals(f: &mut Fixed) {
     f.label("as many places as the program holds");
     f.ask("field live 3");
     f.ask("set scales 3 3f800000");
-    f.ask(format!("search 1000 1000 {w}"));
-    f.ask(format!("search_keyed ffffffffffffffff 1000 {w}"));
+    f.either(format!("search 1000 1000 {w}"));
+    f.either(format!("search_keyed ffffffffffffffff 1000 {w}"));
 }
 
 // ---- files

@@ -1,4 +1,5 @@
 //! The oracle: what the Rust core answers, written as the fixed lists that the gate holds our programs to, and set beside what our programs answer.
+mod choice;
 mod compare;
 mod driver;
 mod encodings;

@@ -2,3 +2,4 @@
 pub mod Falling
 pub mod Staying
 pub mod Choice
+pub mod Ties

@@ -11,11 +11,11 @@ use lib.Dec.{eqb}
 use borrow.Author.Tests.{eqb-true, eqb-false, eq-eqb, ne-eqb}
 use Rattle.lists.specs.Keep.{keep, Each}
 use Rattle.lists.proofs.Keep.{each-mem, each-weaken, each-both}
+use Rattle.lists.proofs.Members.{mem-map, any-mem}
 use Rattle.index.specs.State.{Mark, Slot, newSlot}
 use Rattle.index.specs.Step.{flag, maybeSlot, maybeKey, Cell, keyOfMark, holdsAt, numberWhere, slotHolding, keyAnswer, oneMore}
 use Rattle.index.specs.History.{relabel, remove, keyOf, contains, slotOf}
 use Rattle.histories.specs.Histories.{LiveArrival, isKey, carries, ids, lives, holders, Run, moment, answer, AnswersKeys}
-use Rattle.histories.proofs.Lists.{mem-map, any-mem}
 use Rattle.histories.proofs.Arrivals.{Sorted}
 use Rattle.histories.proofs.Held.{markFor, seenAfter, cellsOf, more-other, more-same, held-taken}
 use Rattle.histories.proofs.Tracks.{none-seen, ids-sorted, find}

@@ -1,5 +1,4 @@
 -- The proof of the theorem on histories.
-pub mod Lists
 pub mod Arrivals
 pub mod Cells
 pub mod Held

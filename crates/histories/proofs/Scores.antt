@@ -10,6 +10,7 @@ use lib.Ieee.{Float, isNan}
 use Rattle.lists.specs.Keep.{Each}
 use Rattle.lists.proofs.Keep.{each-mem, each-weaken, each-both}
 use Rattle.lists.proofs.Front.{each-map}
+use Rattle.lists.proofs.Members.{mem-map}
 use Rattle.choose.specs.Choose.{choose}
 use Rattle.choose.proofs.Choice.{choose-each}
 use Rattle.encode.specs.declared.Header.{Header}
@@ -19,7 +20,6 @@ use Rattle.index.specs.Codec.{scoreOf, tiny}
 use Rattle.index.specs.Step.{Query, Answer, refused, scoreIs, hits, keyHits, firstOf, when, unless, keyOfMark, Hit, rank, hitOf, hitsOf, bySlot, byKey, queryRefusal, shortResult, searched, scoreAnswer}
 use Rattle.index.specs.History.{score, search, searchKeyed}
 use Rattle.histories.specs.Histories.{LiveArrival, liveArrival, lives, accepted, Run, moment, accepts, answer, KeyedList, AnswersScores}
-use Rattle.histories.proofs.Lists.{mem-map}
 use Rattle.histories.proofs.Reading.{passed}
 use Rattle.histories.proofs.Held.{cells-told}
 use Rattle.histories.proofs.Tracks.{none-seen, ids-sorted}

@@ -1,28 +1,34 @@
 -- What an accepted search lists, by arrival.
 use mathlib.Core.Path.{_≡_, refl, sym, ap, _∙_, subst}
-use mathlib.Core.Bool.{Bool, true, false, _&&_}
+use mathlib.Core.Bool.{Bool, true, false}
 use mathlib.Core.List.{List, [], _∷_, map, map-map, List·Memᴰ}
 use mathlib.Core.Option.{Option, some}
 use Prim.Native.Nat.{ℕ, _+_, min, max, _≤_, _<_}
 use native.Mathlib.Omega.{arith}
 use lib.ListN.{length, length-map}
-use lib.Dec.{T, ltb, eqb}
-use lib.Ieee.{Float, isNan}
-use borrow.Author.Tests.{lt-ltb, eqb-true, eq-eqb, ne-eqb}
-use Rattle.lists.specs.Keep.{bit, Each, any}
+use lib.Dec.{T, eqb}
+use lib.Ieee.{Float, eq, isNan}
+use borrow.Author.Tests.{eqb-true, eq-eqb, ne-eqb}
+use Rattle.lists.specs.Keep.{bit, Each}
 use Rattle.lists.proofs.Keep.{each-mem, each-weaken, count-none}
 use Rattle.lists.proofs.Front.{each-map, map-each}
+use Rattle.lists.proofs.Members.{each-of, mem-length}
 use Rattle.choose.specs.Choose.{choose}
+use Rattle.choose.specs.Falling.{RisesBy}
 use Rattle.choose.proofs.Choice.{choose-length, choose-each, choose-count, choose-falls, choose-others, choose-map}
+use Rattle.choose.proofs.Ties.{Only, choose-ties}
+use Rattle.score.specs.Order.{orderNumber}
+use Rattle.score.proofs.Order.{same-number}
 use Rattle.encode.specs.declared.Header.{Header}
-use Rattle.encode.specs.Coded.{fault}
-use Rattle.index.specs.State.{Slot}
-use Rattle.index.specs.Codec.{scoreOf, tiny}
-use Rattle.index.specs.Step.{Query, scoreIs, hits, firstOf, when, unless, Hit, rank, hitOf, hitsOf, bySlot, queryRefusal, shortResult, searched, scoreAnswer}
+use Rattle.index.specs.State.{Slot, newSlot}
+use Rattle.index.specs.Codec.{scoreOf}
+use Rattle.index.specs.Step.{Query, scoreIs, hits, firstOf, unless, Hit, rank, hitOf, hitsOf, bySlot, queryRefusal, shortResult, searched, scoreAnswer}
 use Rattle.index.specs.History.{HistoryOp, score, search}
-use Rattle.index.proofs.Kept.{first-none, when-none}
+use Rattle.index.proofs.Kept.{first-none}
+use Rattle.index.proofs.Passed as Passed
+use Rattle.index.proofs.Passed.{scored-as}
+use Rattle.index.proofs.Ties.{scores-fit}
 use Rattle.histories.specs.Histories.{LiveArrival, ids, lives, accepted, Run, accepts, answer, scores, orderOf, times, ListsBest, SearchesSound, begin}
-use Rattle.histories.proofs.Lists.{each-of, mem-length, any-none}
 use Rattle.histories.proofs.Reading.{unless-accepted}
 use Rattle.histories.proofs.Arrivals.{Sorted}
 use Rattle.histories.proofs.Held.{seenAfter, cellsOf, cells-length}
@@ -56,6 +62,10 @@ times-once a (x ∷ xs) h = go (eqb (x .0) a) refl (times-once a xs (h .1))
     )
     go false e k = omega arith
 
+rises-of : (xs : List (ℕ × Float)) → Sorted (map (λ x. x .0) xs) → RisesBy (λ x. x .0) xs
+rises-of [] h = tt
+rises-of (x ∷ xs) h = (map-each (λ b. x .0 < b) (λ (y : ℕ × Float). y .0) xs (h .0), rises-of xs (h .1))
+
 -- ---- an accepted search
 
 module _ (r : Run) (g : Good r) (q : Query) (k places : ℕ) where
@@ -74,6 +84,12 @@ module _ (r : Run) (g : Good r) (q : Query) (k places : ℕ) where
   scores-ids : map (λ x. x .0) (scores r q) ≡ ids (r .told .living)
   scores-ids = map-map (λ (x : ℕ × Float). x .0) (λ (l : LiveArrival). (l .arrival, scoreOf head q (l .code))) (r .told .living)
 
+  one-rank : (s : Float) → Each (Only orderOf (λ x. eq (x .1) s) (orderNumber s)) (scores r q)
+  one-rank s =
+      each-map (Only orderOf (λ x. eq (x .1) s) (orderNumber s)) (λ l. (l .arrival, scoreOf head q (l .code))) (r .told .living)
+      (each-mem (λ (l : LiveArrival). Only orderOf (λ x. eq (x .1) s) (orderNumber s) (l .arrival, scoreOf head q (l .code))) (r .told .living)
+      (λ l m e. same-number (scoreOf head q (l .code)) s (scores-fit head q (l .code)) (subst T (sym e) tt)))
+
   module _ (ok : accepts (record { before = r; op = search q k places }) ≡ true) where
     machine-ok : accepted (answerOf (full r) (r .told) (search q k places)) ≡ true
     machine-ok = sym (accepts-machine r g (search q k places) refl) ∙ ok
@@ -90,46 +106,23 @@ module _ (r : Run) (g : Good r) (q : Query) (k places : ℕ) where
     query-passed : queryRefusal head q found ≡ 0
     query-passed = first-none (queryRefusal head q found) [] (first-none _ (queryRefusal head q found ∷ []) passed .1) .0
 
-    no-fault : fault head (q .vector) ≡ 0
-    unfolding queryRefusal
-    no-fault = first-none (fault head (q .vector)) _ query-passed .0
-
-    not-tiny : 0 < length found → tiny head ≡ false
-    unfolding queryRefusal
-    not-tiny l = go (tiny head) (when-none (tiny head && ltb 0 (length found)) 9 (first-none (when (tiny head && ltb 0 (length found)) 10) _
-        (first-none (fault head (q .vector)) _ query-passed .1) .0))
-      where
-        go : (b : Bool) → (b && ltb 0 (length found)) ≡ false → b ≡ false
-        go true e = absurd (subst T (sym (lt-ltb 0 (length found) l) ∙ e) tt)
-        go false e = refl
-
     no-nan : Each (λ x. isNan (x .1) ≡ false) (scores r q)
-    unfolding queryRefusal
     no-nan =
         subst (Each (λ x. isNan (x .1) ≡ false)) (cells-scored head q none-seen (r .told .living))
-        (each-map (λ x. isNan (x .1) ≡ false) bySlot found
-        (any-none (λ x. isNan (x .score)) found
-        (when-none (any (λ (x : Hit). isNan (x .score)) found) 11
-        (first-none (when (any (λ (x : Hit). isNan (x .score)) found) 12) []
-        (first-none (when (tiny head && ltb 0 (length found)) 10) _ (first-none (fault head (q .vector)) _ query-passed .1) .1) .0))))
-
-    scored-as : (x : Float) → tiny head ≡ false → isNan x ≡ false → some (unless (firstOf (fault head (q .vector) ∷ when (tiny head) 10 ∷ when (isNan x) 12 ∷ []))
-        (scoreIs x)) ≡ some (scoreIs x)
-    unfolding firstOf
-    scored-as x e f = rw (no-fault, e, f)
+        (each-map (λ x. isNan (x .1) ≡ false) bySlot found (Passed.no-nan head q found query-passed))
 
     -- the call `score` gives the same
     scored : (l : LiveArrival) → List·Memᴰ l (r .told .living) → answer (record { before = r; op = score (l .arrival) q }) ≡
         some (scoreIs (scoreOf head q (l .code)))
-    unfolding answerOf scoreAnswer
+    unfolding answerOf
     scored l m =
         let own = each-of (Named (cellsIn (r .told))) m (find-own none-seen (r .told .living) (ids-sorted (g .tracks))) in
         let some-found : 0 < length found = omega (arith, mem-length m, cells-length none-seen (r .told .living), length-map (cellsIn (r .told)) (hitOf head q)) in
         answer-machine r g (score (l .arrival) q) (each-of (λ (x : LiveArrival). lives (r .told .living) (x .arrival) ≡ true) m (all-live (r .told .living))) ∙
         ap (λ (o : Option Slot). some (scoreAnswer head q o)) (own .1) ∙
-        scored-as (scoreOf head q (l .code)) (not-tiny some-found)
+        ap some (scored-as head q found query-passed some-found (newSlot (own .0) (l .code))
         (each-of (λ (x : LiveArrival). isNan (scoreOf head q (x .code)) ≡ false) m (map-each (λ x. isNan (x .1) ≡ false)
-        (λ (x : LiveArrival). (x .arrival, scoreOf head q (x .code))) (r .told .living) no-nan))
+        (λ (x : LiveArrival). (x .arrival, scoreOf head q (x .code))) (r .told .living) no-nan)))
 
     pub search-lists : ListsBest (record { before = r; op = search q k places }) q k
     search-lists =
@@ -145,6 +138,8 @@ module _ (r : Run) (g : Good r) (q : Query) (k places : ℕ) where
               (r .told .living)
               (each-mem (λ l. answer (record { before = r; op = score (l .arrival) q }) ≡ some (scoreIs (scoreOf head q (l .code)))) (r .told .living) scored));
           falls = choose-falls orderOf k (scores r q);
+          ties = λ s.
+              choose-ties orderOf (λ x. eq (x .1) s) (orderNumber s) (λ x. x .0) k (scores r q) (one-rank s) (rises-of (scores r q) (rw scores-ids (ids-sorted (g .tracks))));
           atMost = λ x m z. choose-others orderOf k (scores r q) x m (λ n. count-none (λ (y : ℕ × Float). eqb (y .0) (x .0)) n z (eq-eqb (x .0) (x .0) refl));
         }
 

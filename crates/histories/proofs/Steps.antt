@@ -20,10 +20,10 @@ use Rattle.index.specs.Step as Step
 use Rattle.index.specs.Step.{Item, Query, Answer, refused, done, flag, slot, maybeSlot, maybeKey, scoreIs, firstOf, when, unless, Cell, liveFrom, holdsAt, heldBy, isHeld, slotHolding, scoreAnswer, keyAnswer, onMark, removed, Outcome, answered, withSlots, guarded, appended, remarked, step}
 use Rattle.index.specs.History.{HistoryOp, add, addKeyed, addMulti, relabel, remove, compact, score, search, searchKeyed, keyOf, contains, slotOf, fileLength, write, opAt}
 use Rattle.lists.proofs.Tests.{and-right}
+use Rattle.lists.proofs.Members.{any-none}
 use Rattle.index.proofs.Refusals.{either-way}
 use Rattle.index.proofs.Questions.{Slots, held-renamed, where-renamed, Asks, search-asks, searchKeyed-asks, contains-asks, slotOf-asks, length-asks, write-asks}
 use Rattle.histories.specs.Histories.{LiveArrival, Told, withLiving, carries, taken, arrived, firstOverwritten, renames, renamed, says, ids, keptArrivals, numberNow, arrivalAt, read, accepted, namesLive}
-use Rattle.histories.proofs.Lists.{any-none}
 use Rattle.histories.proofs.Cells.{onCell, liveCell}
 use Rattle.histories.proofs.Held.{markFor, cellFor, cellsOf, allSeen, cells-live, held-count, held-taken, untaken, found, first-found, cells-overwritten, ids-overwritten, cells-removed, cells-relabelled}
 use Rattle.histories.proofs.Reading.{read-back}

@@ -12,11 +12,11 @@ use lib.Dec.{T, ltb, eqb}
 use borrow.Author.Tests.{eqb-true, le-ltb}
 use Rattle.lists.specs.Keep.{bit, keep, Each, any}
 use Rattle.lists.proofs.Keep.{each-append, each-weaken, each-mem, count-append}
+use Rattle.lists.proofs.Members.{each-of, mem-map}
 use Rattle.index.specs.State.{Slot, live}
 use Rattle.index.specs.Step.{Cell, liveFrom, rising, compacted}
 use Rattle.index.proofs.Questions.{rename}
 use Rattle.histories.specs.Histories.{LiveArrival, ids, numberNow, arrivalAt, liveArrival, liveBy, lives}
-use Rattle.histories.proofs.Lists.{each-of, mem-map}
 use Rattle.histories.proofs.Arrivals.{Sorted, sorted-more, number-all, at-number, number-at, read-number, number-first, number-later}
 use Rattle.histories.proofs.Cells.{onCell, liveCell, cellIds, cells-read, cells-below, cells-map, cells-more, cells-slots, cells-again, each-ids, sorted-ids}
 use Rattle.histories.proofs.Held.{cellFor, cellsOf, allSeen, cells-told, cells-ids, cells-live, cells-joined, cells-rising, cells-held}

@@ -20,7 +20,7 @@ use lib.Dec.{ltb, eqb}
 use lib.Ieee.{Float}
 use Rattle.lists.specs.Lists.{tab, below}
 use Rattle.lists.specs.Keep.{keep, count, Each, any}
-use Rattle.choose.specs.Falling.{Falls}
+use Rattle.choose.specs.Falling.{Falls, RisesBy}
 use Rattle.score.specs.Order.{orderNumber}
 use Rattle.encode.specs.declared.Header.{Header}
 use Rattle.encode.specs.Coded.{Code, noSpare, spareOf}
@@ -35,6 +35,7 @@ use Rattle.index.specs.Fit.{fit}
 use Rattle.index.specs.File.{fileOf}
 use Rattle.index.specs.Step.{Item, Query, Answer, refused, done, flag, slot, maybeSlot, maybeKey, scoreIs, hits, keyHits, size, bytes, Cell, liveFrom, keyOfMark, Hit, bySlot, byKey, rising, setBits}
 use Rattle.index.specs.Call.{Result, call}
+use Rattle.index.specs.Ties.{alike}
 use Rattle.index.specs.Answers.{result, hitCount, byteCount, firstEntries, found, foundKeyed, wrote, LaterKept}
 use Rattle.index.specs.Make.{newHeader, begun, make}
 use Rattle.index.specs.Read.{countIn, headerIn, keyFrom, entriesIn, slotIn, readInto}
@@ -348,6 +349,8 @@ pub record ListsBest (m : Moment) (q : Query) (k : ℕ) : Type 0 where
   pub asScored : Each (λ x. answer (record { before = m .before; op = score (x .0) q }) ≡ some (scoreIs (x .1))) list
   -- "order numbers never rising"
   pub falls : Falls orderOf list
+  -- 02, Req 04: "two equal looking lines should then follow slot order"; both zeros look equal
+  pub ties : (s : Float) → RisesBy (λ x. x .0) (alike s list)
   -- "and every other live slot's order number is at most that of each listed one"
   pub atMost : (x : ℕ × Float) → List·Memᴰ x (scores (m .before) q) → times (x .0) list ≡ 0 → Each (λ y. orderOf x ≤ orderOf y) list
 

@@ -13,3 +13,5 @@ pub mod Places
 pub mod Read
 pub mod Questions
 pub mod Appends
+pub mod Passed
+pub mod Ties

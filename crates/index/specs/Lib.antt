@@ -7,6 +7,7 @@ pub mod Form
 pub mod File
 pub mod Step
 pub mod Call
+pub mod Ties
 pub mod Make
 pub mod Answers
 pub mod History

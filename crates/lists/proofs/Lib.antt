@@ -6,3 +6,4 @@ pub mod Front
 pub mod Writing
 pub mod Tests
 pub mod Bits
+pub mod Members

@@ -13,7 +13,7 @@ use Rattle.padding.specs.Padded.{isPowerOfTwo, exponent}
 use Rattle.fwht.specs.Fwht.{fwht, pass, entry}
 use Rattle.fwht.specs.Binary32.{fwht32}
 use Rattle.codes.specs.Packing.{packed, bytesPerVector}
-use Rattle.score.specs.Order.{orderOfBits, orderNumber}
+use Rattle.score.specs.Order.{orderOfBits, rankedBits, orderNumber}
 use Rattle.choose.specs.Choose.{stay, choose}
 use Rattle.choose_slots.specs.Slots.{takingPart, listed}
 
@@ -54,8 +54,8 @@ examples =
       says = 0x3C00 ∷ 0x7BFF ∷ 0x7C00 ∷ 0 ∷ [];
     }
     ∷ record { gives = widened 1 ∷ []; says = 0x3380_0000 ∷ [] }
-    -- order numbers: +0 0x80000000, -0 0x7FFFFFFF
-    ∷ record { gives = orders (0 ∷ 0x8000_0000 ∷ []); says = 0x8000_0000 ∷ 0x7FFF_FFFF ∷ [] }
+    -- order numbers: +0 0x80000000, -0 0x80000000 (document 02, Req 04)
+    ∷ record { gives = orders (0 ∷ 0x8000_0000 ∷ []); says = 0x8000_0000 ∷ 0x8000_0000 ∷ [] }
     -- scores 1,1,2 with k 2: slots 2,1; scores 2,1,1: 0,1
     ∷ record { gives = listed (orders (0x3F80_0000 ∷ 0x3F80_0000 ∷ 0x4000_0000 ∷ [])) 2; says = 2 ∷ 1 ∷ [] }
     ∷ record { gives = listed (orders (0x4000_0000 ∷ 0x3F80_0000 ∷ 0x3F80_0000 ∷ [])) 2; says = 0 ∷ 1 ∷ [] }
@@ -64,5 +64,5 @@ examples =
     ∷ []
 
 pub worked : T (agree examples)
-unfolding examples agree same narrowed widened magnitude near kept rootBits nearestRoot lastPassing rootReaches start nextState xorLeft xorRight output sign isPowerOfTwo exponent fwht pass entry packed bytesPerVector orderOfBits stay choose takingPart listed size add sub ofBits toBits nanBits
+unfolding examples agree same narrowed widened magnitude near kept rootBits nearestRoot lastPassing rootReaches start nextState xorLeft xorRight output sign isPowerOfTwo exponent fwht pass entry packed bytesPerVector orderOfBits rankedBits stay choose takingPart listed size add sub ofBits toBits nanBits
 worked = tt

@@ -1,4 +1,4 @@
--- Entries of lists: laws that the crate lists has no name for.
+-- Entries that stand in a list, and tests that some entry passes.
 use mathlib.Core.Path.{_≡_, refl, ap, sym, _∙_, subst}
 use mathlib.Core.Bool.{Bool, true, false, _||_}
 use mathlib.Core.List.{List, [], _∷_, map, List·Memᴰ, List·Memᴰ·head, List·Memᴰ·tail}
