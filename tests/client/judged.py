@@ -226,6 +226,24 @@ def check_many_queries(checks):
                  [[f"{pattern:08X}" for _, pattern in found] for found in tools.hits(case.file, case.patterns, asked)])
 
 
+def check_zeros(checks):
+    """Document 02, Req 04: lines whose scores are zeros follow slot order, each with its own sign. The query is at right angles to every row, so a score has its scale's."""
+    folder = Folder()
+    folder.done("new", "z.vecq", "--dim", 2)
+    (folder / "rows.csv").write_text("".join(f"{key},1,0\n" for key in (7, 7, 8, 9, 7, 8)))
+    folder.done("add", "z.vecq", "rows.csv", "--multi")
+    file = bytearray((folder / "z.vecq").read_bytes())
+    file[25:37] = bytes.fromhex("0080 0000 00bc 003c 0000 0080")
+    (folder / "z.vecq").write_bytes(file)
+    (folder / "q.csv").write_text("0,1\n")
+    minus, plus = "80000000\t-0", "00000000\t0"
+    by_slot = [f"1\t0\t7\t{minus}", f"2\t1\t7\t{plus}", f"3\t2\t8\t{minus}", f"4\t3\t9\t{plus}", f"5\t4\t7\t{plus}", f"6\t5\t8\t{minus}"]
+    by_key = [f"1\t-\t7\t{minus}", f"2\t-\t8\t{minus}", f"3\t-\t9\t{plus}"]
+    for k, by, right in ((6, "slot", by_slot), (2, "slot", by_slot[:2]), (6, "key", by_key), (2, "key", by_key[:1])):
+        lines = folder.done("find", "z.vecq", "q.csv", "-k", k, "--by", by).out.splitlines()
+        checks.equal(f"zeros: k {k} by {by}", [line for line in lines if not line.startswith("#")], right)
+
+
 def check_listed_files(checks):
     """Files of every version, sound and not: `info --slots` shows what document 01's listing does, or the number of the refusal."""
     folder = Folder()
@@ -248,6 +266,7 @@ def main():
         for check in (check_added, check_info, check_keys, check_lists, check_scores, check_changes):
             check(checks, case)
     check_many_queries(checks)
+    check_zeros(checks)
     check_listed_files(checks)
     checks.end()
 
