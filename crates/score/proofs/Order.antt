@@ -118,22 +118,26 @@ zeros-not-below false false l = l
 
 -- ---- the number by sign and rest
 
--- by the program's test of the top bit
-pub inverted : (score : Float) (b : ℕ) → b ≡ rankedBits (toBits binary32 score) → 2 ^ 31 ≤ b → 2 ^ 32 - 1 - b ≡ orderNumber score
-unfolding orderOfBits
-inverted score b e h = rw (← e, le-leb (2 ^ 31) b h)
-
-pub top-flipped : (score : Float) (b : ℕ) → b ≡ rankedBits (toBits binary32 score) → b < 2 ^ 31 → b + 2 ^ 31 ≡ orderNumber score
-unfolding orderOfBits
-top-flipped score b e h = rw (← e, lt-leb (2 ^ 31) b h)
-
-pub ranked-zero : (b : ℕ) → b ≡ 2 ^ 31 → 0 ≡ rankedBits b
+ranked-zero : (b : ℕ) → b ≡ 2 ^ 31 → rankedBits b ≡ 0
 unfolding rankedBits
 ranked-zero b e = rw (eq-eqb b (2 ^ 31) e)
 
-pub ranked-other : (b : ℕ) → (b ≡ 2 ^ 31 → ⊥) → b ≡ rankedBits b
+ranked-other : (b : ℕ) → (b ≡ 2 ^ 31 → ⊥) → rankedBits b ≡ b
 unfolding rankedBits
 ranked-other b n = rw (ne-eqb b (2 ^ 31) n)
+
+-- by the program's test: bits above -0's are inverted, of all others the top bit is set, whether or not it was
+pub inverted : (score : Float) (b : ℕ) → b ≡ toBits binary32 score → 2 ^ 31 < b → 2 ^ 32 - 1 - b ≡ orderNumber score
+unfolding orderOfBits
+inverted score b e h = rw (← e, ranked-other b (λ z. omega arith), le-leb (2 ^ 31) b (omega arith))
+
+pub top-set : (score : Float) (b : ℕ) → b ≡ toBits binary32 score → b ≤ 2 ^ 31 → b % 2 ^ 31 + 2 ^ 31 ≡ orderNumber score
+unfolding orderOfBits
+top-set score b e h =
+    elim (eq-or-lt-of-le h) [
+      | inl z ↦ rw (← e, ranked-zero b z) (rw z refl)
+      | inr l ↦ rw (← e, ranked-other b (λ z. omega arith), lt-leb (2 ^ 31) b l) (omega arith)
+    ]
 
 abbrev numbered : Bool → ℕ → ℕ
 numbered true zero = 2 ^ 31
@@ -144,9 +148,9 @@ number-of : (x : Float) → rest x < 2 ^ 31 → orderNumber x ≡ numbered (nega
 number-of x l = go (negative x) (rest x) (pattern-is x) l
   where
     go : (s : Bool) (r : ℕ) → toBits binary32 x ≡ cond s (2 ^ 31) 0 + r → r < 2 ^ 31 → orderNumber x ≡ numbered s r
-    go true zero e l = sym (top-flipped x 0 (ranked-zero (toBits binary32 x) (omega (arith, e))) (omega arith)) ∙ omega arith
-    go true (suc r) e l = sym (inverted x (2 ^ 31 + suc r) (sym e ∙ ranked-other (toBits binary32 x) (λ z. omega (arith, e, z))) (omega arith)) ∙ omega arith
-    go false r e l = sym (top-flipped x (0 + r) (sym e ∙ ranked-other (toBits binary32 x) (λ z. omega (arith, e, z))) (omega arith)) ∙ omega arith
+    go true zero e l = sym (top-set x (2 ^ 31) (sym e ∙ omega arith) (omega arith)) ∙ omega arith
+    go true (suc r) e l = sym (inverted x (2 ^ 31 + suc r) (sym e) (omega arith)) ∙ omega arith
+    go false r e l = sym (top-set x (0 + r) (sym e) (omega arith)) ∙ omega arith
 
 number-is : (x : Float) → T (fits binary32 x) → orderNumber x ≡ numbered (negative x) (rest x)
 number-is x h = number-of x (rest-lt x h)

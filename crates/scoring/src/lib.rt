@@ -3,7 +3,7 @@ ghost use mathlib.Core.Path.{_≡_};
 ghost use mathlib.Core.Option.{none, some};
 ghost use Rattle.codes.specs.Stage.{stage};
 ghost use Rattle.score.specs.Score.{slotScore, judged};
-ghost use Rattle.score.specs.Order.{rankedBits, orderNumber};
+ghost use Rattle.score.specs.Order.{orderNumber};
 use score::Scored;
 
 // The answer for a score: a NaN is refused.
@@ -44,23 +44,13 @@ pub fn score_residual(
     judged(first + residual)
 }
 
-// The bits by which a score with these is ranked: -0 has those of +0.
-fn ranked_bits(bits: u32) -> u32
-    ensures { λ r. ⌜ r ≡ rankedBits bits ⌝ }
-{
-    if bits == 0x8000_0000 {
-        return 0;
-    }
-    bits
-}
-
-// The order number of a score.
+// The order number of a score. -0 goes with the scores that are not negative.
 pub fn order_number(score: f32) -> u32
     ensures { λ r. ⌜ r ≡ orderNumber score ⌝ }
 {
-    let bits = ranked_bits(pattern::to_bits(score));
-    if 0x8000_0000 <= bits {
+    let bits = pattern::to_bits(score);
+    if 0x8000_0000 < bits {
         return 0xFFFF_FFFF - bits;
     }
-    bits + 0x8000_0000
+    bits % 0x8000_0000 + 0x8000_0000
 }
