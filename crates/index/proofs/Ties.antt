@@ -27,9 +27,9 @@ use Rattle.index.specs.Arrays.{Arrays}
 use Rattle.index.specs.State.{Slot, live, stateOf}
 use Rattle.index.specs.Fit.{fit}
 use Rattle.index.specs.Codec.{scoreByTable, scoreOf}
-use Rattle.index.specs.Step.{Op, score, search, searchKeyed, searchCascade, Query, Answer, refused, done, flag, slot, maybeSlot, maybeKey, scoreIs, hits, keyHits, size, bytes, firstOf, when, unless, Cell, liveFrom, Hit, hitOf, hitsOf, rank, queryRefusal, shortResult, bySlot, byKey, searched, candidates, wide, searchedCascade, scoreAnswer, step}
+use Rattle.index.specs.Step.{Op, keyOf, score, search, searchKeyed, searchCascade, Query, Answer, refused, done, flag, slot, maybeSlot, maybeKey, scoreIs, hits, keyHits, size, bytes, firstOf, when, unless, Cell, liveFrom, Hit, hitOf, hitsOf, rank, queryRefusal, shortResult, bySlot, byKey, searched, candidates, wide, searchedCascade, scoreAnswer, keyAnswer, step}
 use Rattle.index.specs.Call.{call, Result}
-use Rattle.index.specs.Ties.{alike, BySlot, TiesBySlot, NamesLowest, ByLowest, TiesByKey}
+use Rattle.index.specs.Ties.{alike, InSlotOrder, TiesBySlot, NamesLowest, ByLowest, TiesByKey}
 use Rattle.index.proofs.Kept.{first-none}
 use Rattle.index.proofs.Calls.{call-misfit, call-fits}
 use Rattle.index.proofs.Passed.{no-nan, scored-as}
@@ -86,6 +86,12 @@ scores-fit h q c = score-fits _ _ _ (c .first) (c .second)
 module _ (h : Header) (q : Query) (cs : List Cell) (k : ℕ) where
   abbrev found : List Hit
   found = choose rank k (hitsOf h q cs)
+
+  own-keys : (ss : List Slot) → Each (There ss) cs → Each (λ y. keyAnswer (getElem? ss (y .number)) ≡ y .key) found
+  own-keys ss at =
+      choose-each rank k (hitsOf h q cs) (λ y. keyAnswer (getElem? ss (y .number)) ≡ y .key)
+      (each-map (λ y. keyAnswer (getElem? ss (y .number)) ≡ y .key) (hitOf h q) cs
+      (each-weaken (There ss) (λ c. keyAnswer (getElem? ss (c .number)) ≡ hitOf h q c .key) cs (λ c e. ap keyAnswer e) at))
 
   module _ (passed : queryRefusal h q (hitsOf h q cs) ≡ 0) where
     sound : Each (λ y. isNan (y .score) ≡ false) found
@@ -264,9 +270,13 @@ module _ (x : Index) (a : Arrays) (q : Query) where
     unfolding step
     score-call i = ap (λ (r : Result). r .answer) (call-fits x a (score i q) f)
 
+    key-call : (i : ℕ) → call x a (keyOf i) .answer ≡ maybeKey (keyAnswer (getElem? slots i))
+    unfolding step
+    key-call i = ap (λ (r : Result). r .answer) (call-fits x a (keyOf i) f)
+
     -- by the cells that are scored
     by-slot : (cs : List Cell) (k n : ℕ) (lines : List (ℕ × Float)) → RisesBy (λ c. c .number) cs → Each (There slots) cs →
-        (n ≡ 0 → queryRefusal head q (hitsOf head q cs) ≡ 0) → unless n (hits (map bySlot (found head q cs k))) ≡ hits lines → BySlot x a q lines
+        (n ≡ 0 → queryRefusal head q (hitsOf head q cs) ≡ 0) → unless n (hits (map bySlot (found head q cs k))) ≡ hits lines → InSlotOrder x a q lines
     by-slot cs k n lines up at passed e =
         let accepted = unless-list n (hits (map bySlot (found head q cs k))) (hits lines) refl e in
         let same : map bySlot (found head q cs k) ≡ lines = ap linesOf (accepted .1) in
@@ -281,14 +291,14 @@ module _ (x : Index) (a : Arrays) (q : Query) where
     abbrev cells : List Cell
     cells = liveFrom 0 slots
 
-    search-ties : (k places : ℕ) (lines : List (ℕ × Float)) → call x a (search q k places) .answer ≡ hits lines → BySlot x a q lines
+    search-ties : (k places : ℕ) (lines : List (ℕ × Float)) → call x a (search q k places) .answer ≡ hits lines → InSlotOrder x a q lines
     unfolding step searched
     search-ties k places lines e =
         by-slot cells k (firstOf (shortResult k (length cells) places ∷ queryRefusal head q (hitsOf head q cells) ∷ [])) lines (live-rise 0 slots) (there slots)
         (λ z. first-none (queryRefusal head q (hitsOf head q cells)) [] (first-none (shortResult k (length cells) places) _ z .1) .0)
         (sym (ap (λ (r : Result). r .answer) (call-fits x a (search q k places) f)) ∙ e)
 
-    cascade-ties : (k r places : ℕ) (lines : List (ℕ × Float)) → call x a (searchCascade q k r places) .answer ≡ hits lines → BySlot x a q lines
+    cascade-ties : (k r places : ℕ) (lines : List (ℕ × Float)) → call x a (searchCascade q k r places) .answer ≡ hits lines → InSlotOrder x a q lines
     unfolding step searchedCascade candidates
     cascade-ties k r places lines e =
         let cs : List Cell = candidates head q (wide k r (length cells)) cells in
@@ -309,6 +319,9 @@ module _ (x : Index) (a : Arrays) (q : Query) where
         record {
           found = ys;
           searched = ap (λ (r : Result). r .answer) (call-fits x a (search q k places) f) ∙ ap (λ (m : ℕ). unless m (hits (map bySlot ys))) (accepted .0);
+          keys =
+              each-weaken (λ y. keyAnswer (getElem? slots (y .number)) ≡ y .key) (λ y. call x a (keyOf (y .number)) .answer ≡ maybeKey (y .key)) ys
+              (λ y g. key-call (y .number) ∙ ap maybeKey g) (own-keys head q cells k slots (there slots));
           named = subst (Each (NamesLowest ys)) (ap linesOf (accepted .1)) (names [] ys (first-lowest ys (sound head q cells k passed) (hits-rise head q cells k (live-rise 0 slots))) [] tt);
         }
 

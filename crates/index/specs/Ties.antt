@@ -10,7 +10,7 @@ use Rattle.lists.specs.Keep.{keep, Each}
 use Rattle.choose.specs.Falling.{RisesBy}
 use Rattle.index.specs.declared.Index.{Index}
 use Rattle.index.specs.Arrays.{Arrays}
-use Rattle.index.specs.Step.{Op, score, search, searchKeyed, searchCascade, Query, scoreIs, hits, keyHits, Hit, bySlot}
+use Rattle.index.specs.Step.{Op, keyOf, score, search, searchKeyed, searchCascade, Query, maybeKey, scoreIs, hits, keyHits, Hit, bySlot}
 use Rattle.index.specs.Call.{call}
 
 -- ---- lists of slots
@@ -24,7 +24,7 @@ slotSearch (some r) q k places = searchCascade q k r places
 abbrev pub alike : (s : Float) → List (ℕ × Float) → List (ℕ × Float)
 alike s lines = keep (λ l. eq (l .1) s) lines
 
-pub record BySlot (x : Index) (a : Arrays) (q : Query) (lines : List (ℕ × Float)) : Type 0 where
+pub record InSlotOrder (x : Index) (a : Arrays) (q : Query) (lines : List (ℕ × Float)) : Type 0 where
   -- equal looking lines follow slot order
   pub rise : (s : Float) → RisesBy (λ l. l .0) (alike s lines)
   -- each line has the score that its slot has by itself, to the bit: a zero has its own sign
@@ -33,7 +33,7 @@ pub record BySlot (x : Index) (a : Arrays) (q : Query) (lines : List (ℕ × Flo
 abbrev pub TiesBySlot : Type 0
 TiesBySlot =
     (x : Index) (a : Arrays) (r : Option ℕ) (q : Query) (k places : ℕ) (lines : List (ℕ × Float)) →
-    call x a (slotSearch r q k places) .answer ≡ hits lines → BySlot x a q lines
+    call x a (slotSearch r q k places) .answer ≡ hits lines → InSlotOrder x a q lines
 
 -- ---- lists of keys
 
@@ -47,7 +47,9 @@ pub record NamesLowest (xs : List Hit) (line : ℕ × Float) : Type 0 where
 
 pub record ByLowest (x : Index) (a : Arrays) (q : Query) (k places : ℕ) (lines : List (ℕ × Float)) : Type 0 where
   pub found : List Hit
+  -- these are the lines of the search by slot, with the keys that `key_of` answers
   pub searched : call x a (search q k places) .answer ≡ hits (map bySlot found)
+  pub keys : Each (λ y. call x a (keyOf (y .number)) .answer ≡ maybeKey (y .key)) found
   pub named : Each (NamesLowest found) lines
 
 abbrev pub TiesByKey : Type 0
