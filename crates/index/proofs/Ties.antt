@@ -36,46 +36,45 @@ use Rattle.index.proofs.Passed.{no-nan, scored-as}
 
 -- ---- the numbers of the live slots rise, and each is its slot's place
 
-module _ where
-  from-there : (i : ℕ) (ss : List Slot) → Each (λ c. i ≤ c .number) (liveFrom i ss)
-  unfolding liveFrom
-  from-there i [] = tt
-  from-there i (s ∷ ss) =
-      let later = each-weaken (λ (c : Cell). suc i ≤ c .number) (λ c. i ≤ c .number) (liveFrom (suc i) ss) (λ c l. omega arith) (from-there (suc i) ss) in
-      either (Each (λ (c : Cell). i ≤ c .number)) (live s) (omega arith, later) later
+from-there : (i : ℕ) (ss : List Slot) → Each (λ c. i ≤ c .number) (liveFrom i ss)
+unfolding liveFrom
+from-there i [] = tt
+from-there i (s ∷ ss) =
+    let later = each-weaken (λ (c : Cell). suc i ≤ c .number) (λ c. i ≤ c .number) (liveFrom (suc i) ss) (λ c l. omega arith) (from-there (suc i) ss) in
+    either (Each (λ (c : Cell). i ≤ c .number)) (live s) (omega arith, later) later
 
-  live-rise : (i : ℕ) (ss : List Slot) → RisesBy (λ c. c .number) (liveFrom i ss)
-  unfolding liveFrom
-  live-rise i [] = tt
-  live-rise i (s ∷ ss) =
-      either (RisesBy (λ (c : Cell). c .number)) (live s)
-      (each-weaken (λ (c : Cell). suc i ≤ c .number) (λ c. i < c .number) (liveFrom (suc i) ss) (λ c l. omega arith) (from-there (suc i) ss), live-rise (suc i) ss)
-      (live-rise (suc i) ss)
+live-rise : (i : ℕ) (ss : List Slot) → RisesBy (λ c. c .number) (liveFrom i ss)
+unfolding liveFrom
+live-rise i [] = tt
+live-rise i (s ∷ ss) =
+    either (RisesBy (λ (c : Cell). c .number)) (live s)
+    (each-weaken (λ (c : Cell). suc i ≤ c .number) (λ c. i < c .number) (liveFrom (suc i) ss) (λ c l. omega arith) (from-there (suc i) ss), live-rise (suc i) ss)
+    (live-rise (suc i) ss)
 
-  -- so many places from i on
-  abbrev Placed : ℕ → List Slot → Cell → Type 0
-  Placed i ss c = (j : ℕ) → c .number ≡ i + j → getElem? ss j ≡ some (c .slot)
+-- the slot of a cell stands so many places on as its number is past i
+abbrev Placed : ℕ → List Slot → Cell → Type 0
+Placed i ss c = (j : ℕ) → c .number ≡ i + j → getElem? ss j ≡ some (c .slot)
 
-  placed : (i : ℕ) (ss : List Slot) → Each (Placed i ss) (liveFrom i ss)
-  unfolding liveFrom
-  placed i [] = tt
-  placed i (s ∷ ss) =
-      let later : Each (Placed i (s ∷ ss)) (liveFrom (suc i) ss) = each-mem (Placed i (s ∷ ss)) (liveFrom (suc i) ss) (λ c m. next c m (each-of (Placed (suc i) ss) m (placed (suc i) ss))) in
-      either (Each (Placed i (s ∷ ss))) (live s) (here, later) later
-    where
-      here : (j : ℕ) → i ≡ i + j → getElem? (s ∷ ss) j ≡ some s
-      here zero e = refl
-      here (suc j) e = absurd (omega arith)
+placed : (i : ℕ) (ss : List Slot) → Each (Placed i ss) (liveFrom i ss)
+unfolding liveFrom
+placed i [] = tt
+placed i (s ∷ ss) =
+    let later : Each (Placed i (s ∷ ss)) (liveFrom (suc i) ss) = each-mem (Placed i (s ∷ ss)) (liveFrom (suc i) ss) (λ c m. next c m (each-of (Placed (suc i) ss) m (placed (suc i) ss))) in
+    either (Each (Placed i (s ∷ ss))) (live s) (here, later) later
+  where
+    here : (j : ℕ) → i ≡ i + j → getElem? (s ∷ ss) j ≡ some s
+    here zero e = refl
+    here (suc j) e = absurd (omega arith)
 
-      next : (c : Cell) → List·Memᴰ c (liveFrom (suc i) ss) → Placed (suc i) ss c → Placed i (s ∷ ss) c
-      next c m ih zero e = absurd (omega (arith, e, each-of (λ (c : Cell). suc i ≤ c .number) m (from-there (suc i) ss)))
-      next c m ih (suc j) e = ih j (omega (arith, e))
+    next : (c : Cell) → List·Memᴰ c (liveFrom (suc i) ss) → Placed (suc i) ss c → Placed i (s ∷ ss) c
+    next c m ih zero e = absurd (omega (arith, e, each-of (λ (c : Cell). suc i ≤ c .number) m (from-there (suc i) ss)))
+    next c m ih (suc j) e = ih j (omega (arith, e))
 
-  abbrev There : List Slot → Cell → Type 0
-  There ss c = getElem? ss (c .number) ≡ some (c .slot)
+abbrev There : List Slot → Cell → Type 0
+There ss c = getElem? ss (c .number) ≡ some (c .slot)
 
-  there : (ss : List Slot) → Each (There ss) (liveFrom 0 ss)
-  there ss = each-weaken (Placed 0 ss) (There ss) (liveFrom 0 ss) (λ c f. f (c .number) (omega arith)) (placed 0 ss)
+there : (ss : List Slot) → Each (There ss) (liveFrom 0 ss)
+there ss = each-weaken (Placed 0 ss) (There ss) (liveFrom 0 ss) (λ c f. f (c .number) (omega arith)) (placed 0 ss)
 
 -- ---- the chosen among cells in slot order
 
