@@ -19,6 +19,7 @@ use Rattle.index.specs.State.{Slot}
 use Rattle.index.specs.Codec.{scoreOf, tiny}
 use Rattle.index.specs.Step.{Query, Answer, refused, scoreIs, hits, keyHits, firstOf, when, unless, keyOfMark, Hit, rank, hitOf, hitsOf, bySlot, byKey, queryRefusal, shortResult, searched, scoreAnswer}
 use Rattle.index.specs.History.{score, search, searchKeyed}
+use Rattle.index.proofs.Passed.{unless-hits}
 use Rattle.histories.specs.Histories.{LiveArrival, liveArrival, lives, accepted, Run, moment, accepts, answer, KeyedList, AnswersScores}
 use Rattle.histories.proofs.Reading.{passed}
 use Rattle.histories.proofs.Held.{cells-told}
@@ -27,11 +28,7 @@ use Rattle.histories.proofs.Machine.{cellsIn, answerOf}
 use Rattle.histories.proofs.Runs.{Good, answer-machine, accepts-machine}
 use Rattle.histories.proofs.Keys.{Named, find-own, all-live}
 
--- ---- a list, or a refusal
-
-unless-hits : (n : ℕ) (ys list : List (ℕ × Float)) → unless n (hits ys) ≡ hits list → (n ≡ 0) × (ys ≡ list)
-unless-hits zero ys list e = (refl, cc)
-unless-hits (suc n) ys list e = absurd (let z : _≡_ {A = ℕ} 0 1 = cc in omega arith)
+-- ---- a refusal
 
 -- what is refused is so whatever the list is
 unless-refused : (n m : ℕ) (ys : List (ℕ × Float)) (b : Answer) → unless n (hits ys) ≡ refused m → unless n b ≡ refused m

@@ -1,12 +1,13 @@
--- What an accepted search says of its query and of the slots that it scores.
+-- What an accepted search says: a list is no refusal, and query and scored slots have passed the tests.
 use mathlib.Core.Path.{_≡_, refl, sym, _∙_, subst}
 use mathlib.Core.Bool.{Bool, true, false, _&&_}
 use mathlib.Core.List.{List, [], _∷_}
 use mathlib.Core.Option.{some}
-use Prim.Native.Nat.{_<_}
+use Prim.Native.Nat.{ℕ, zero, suc, _<_}
+use native.Mathlib.Omega.{arith}
 use lib.ListN.{length}
 use lib.Dec.{T, ltb}
-use lib.Ieee.{isNan}
+use lib.Ieee.{Float, isNan}
 use borrow.Author.Tests.{lt-ltb}
 use Rattle.lists.specs.Keep.{Each, any}
 use Rattle.lists.proofs.Members.{any-none}
@@ -14,8 +15,16 @@ use Rattle.encode.specs.declared.Header.{Header}
 use Rattle.encode.specs.Coded.{fault}
 use Rattle.index.specs.State.{Slot}
 use Rattle.index.specs.Codec.{scoreOf, tiny}
-use Rattle.index.specs.Step.{Query, scoreIs, firstOf, when, Hit, queryRefusal, scoreAnswer}
+use Rattle.index.specs.Step.{Query, scoreIs, hits, keyHits, firstOf, when, unless, Hit, queryRefusal, scoreAnswer}
 use Rattle.index.proofs.Kept.{first-none, when-none}
+
+pub unless-hits : (n : ℕ) (ys lines : List (ℕ × Float)) → unless n (hits ys) ≡ hits lines → (n ≡ 0) × (ys ≡ lines)
+unless-hits zero ys lines e = (refl, cc)
+unless-hits (suc n) ys lines e = absurd (let z : _≡_ {A = ℕ} 0 1 = cc in omega arith)
+
+pub unless-keys : (n : ℕ) (ys lines : List (ℕ × Float)) → unless n (keyHits ys) ≡ keyHits lines → (n ≡ 0) × (ys ≡ lines)
+unless-keys zero ys lines e = (refl, cc)
+unless-keys (suc n) ys lines e = absurd (let z : _≡_ {A = ℕ} 0 1 = cc in omega arith)
 
 module _ (h : Header) (q : Query) (xs : List Hit) (passed : queryRefusal h q xs ≡ 0) where
   later : firstOf (when (tiny h && ltb 0 (length xs)) 10 ∷ when (any (λ x. isNan (x .score)) xs) 12 ∷ []) ≡ 0

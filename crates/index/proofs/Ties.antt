@@ -2,7 +2,7 @@
 use mathlib.Core.Path.{_≡_, refl, sym, ap, subst, _∙_}
 use mathlib.Core.Bool.{Bool, true, false, not, cond, _&&_, or-true, true≢false}
 use mathlib.Core.List.{List, [], _∷_, _++_, map, append-assoc, List·Memᴰ, List·Memᴰ·head, Memᴰ·append-right}
-use mathlib.Core.Option.{Option, none, some}
+use mathlib.Core.Option.{Option, none, some, Option·some-injective}
 use Prim.Native.Nat.{ℕ, zero, suc, _+_, _≤_, _<_}
 use native.Mathlib.Omega.{arith}
 use lib.ListN.{length, length-map, getElem?}
@@ -27,12 +27,12 @@ use Rattle.index.specs.Arrays.{Arrays}
 use Rattle.index.specs.State.{Slot, live, stateOf}
 use Rattle.index.specs.Fit.{fit}
 use Rattle.index.specs.Codec.{scoreByTable, scoreOf}
-use Rattle.index.specs.Step.{Op, keyOf, score, search, searchKeyed, searchCascade, Query, Answer, refused, done, flag, slot, maybeSlot, maybeKey, scoreIs, hits, keyHits, size, bytes, firstOf, when, unless, Cell, liveFrom, Hit, hitOf, hitsOf, rank, queryRefusal, shortResult, bySlot, byKey, searched, candidates, wide, searchedCascade, scoreAnswer, keyAnswer, step}
+use Rattle.index.specs.Step.{Op, keyOf, score, search, searchKeyed, searchCascade, Query, Answer, refused, maybeKey, scoreIs, hits, keyHits, firstOf, when, unless, Cell, liveFrom, Hit, hitOf, hitsOf, rank, queryRefusal, shortResult, bySlot, byKey, searched, candidates, wide, searchedCascade, scoreAnswer, keyAnswer, step}
 use Rattle.index.specs.Call.{call, Result}
 use Rattle.index.specs.Ties.{alike, InSlotOrder, TiesBySlot, NamesLowest, ByLowest, TiesByKey}
 use Rattle.index.proofs.Kept.{first-none}
 use Rattle.index.proofs.Calls.{call-misfit, call-fits}
-use Rattle.index.proofs.Passed.{no-nan, scored-as}
+use Rattle.index.proofs.Passed.{unless-hits, unless-keys, no-nan, scored-as}
 
 -- ---- the numbers of the live slots rise, and each is its slot's place
 
@@ -161,12 +161,6 @@ first-lowest (x ∷ xs) n up = (
 abbrev Seen : (seen : List ℕ) → Hit → Type 0
 Seen seen y = (j : ℕ) → y .key ≡ some j → any (eqb j) seen ≡ true
 
-some-same : {i j : ℕ} → some i ≡ some j → i ≡ j
-some-same {i} {j} e = ap (λ (o : Option ℕ). elim o [ none ↦ i | some n ↦ n ]) e
-
-none-some : {j : ℕ} → _≡_ {A = Option ℕ} none (some j) → ⊥
-none-some e = true≢false (ap (λ (o : Option ℕ). elim o [ none ↦ true | some n ↦ false ]) e)
-
 abbrev Named : (before ys : List Hit) → Type 0
 Named before ys = (seen : List ℕ) → Each (Seen seen) before → Each (NamesLowest (before ++ ys)) (byKey seen ys)
 
@@ -179,6 +173,9 @@ names before (x ∷ ys) low seen h = go (x .key) refl (names (before ++ (x ∷ [
     next ih also h s =
         subst (λ (zs : List Hit). Each (NamesLowest zs) (byKey also ys)) (append-assoc before (x ∷ []) ys)
         (ih also (each-append (Seen also) before (x ∷ []) h (s, tt)))
+
+    no-key : (j : ℕ) → _≡_ {A = Option ℕ} none (some j) → ⊥
+    no-key j e = let z : _≡_ {A = ℕ} 0 1 = cc in omega arith
 
     own : (j : ℕ) → x .key ≡ some j → any (eqb j) seen ≡ false → NamesLowest (before ++ (x ∷ ys)) (j, x .score)
     own j e f =
@@ -205,48 +202,16 @@ names before (x ∷ ys) low seen h = go (x .key) refl (names (before ++ (x ∷ [
 
     new : Named (before ++ (x ∷ [])) ys → (j : ℕ) → x .key ≡ some j → (b : Bool) → any (eqb j) seen ≡ b →
         Each (NamesLowest (before ++ (x ∷ ys))) (cond b (byKey seen ys) ((j, x .score) ∷ byKey (j ∷ seen) ys))
-    new ih j e true f = next ih seen h (λ i d. ap (λ (n : ℕ). any (eqb n) seen) (some-same (sym d ∙ e)) ∙ f)
+    new ih j e true f = next ih seen h (λ i d. ap (λ (n : ℕ). any (eqb n) seen) (Option·some-injective i j (sym d ∙ e)) ∙ f)
     new ih j e false f = (
       own j e f,
-      next ih (j ∷ seen) (each-weaken (Seen seen) (Seen (j ∷ seen)) before (λ y s i d. more i j (s i d)) h) (λ i d. mine i j (some-same (sym d ∙ e))),
+      next ih (j ∷ seen) (each-weaken (Seen seen) (Seen (j ∷ seen)) before (λ y s i d. more i j (s i d)) h) (λ i d. mine i j (Option·some-injective i j (sym d ∙ e))),
     )
 
     go : (o : Option ℕ) → x .key ≡ o → Named (before ++ (x ∷ [])) ys → Each (NamesLowest (before ++ (x ∷ ys)))
         (elim o [ none ↦ byKey seen ys | some k ↦ cond (any (eqb k) seen) (byKey seen ys) ((k, x .score) ∷ byKey (k ∷ seen) ys) ])
-    go none e ih = next ih seen h (λ j d. absurd (none-some (sym e ∙ d)))
+    go none e ih = next ih seen h (λ j d. absurd (no-key j (sym e ∙ d)))
     go (some j) e ih = new ih j e (any (eqb j) seen) refl
-
--- ---- an answer that is a list
-
-abbrev isList : Answer → Bool
-isList (refused n) = false
-isList done = false
-isList (flag b) = false
-isList (slot i) = false
-isList (maybeSlot o) = false
-isList (maybeKey o) = false
-isList (scoreIs x) = false
-isList (hits xs) = true
-isList (keyHits xs) = true
-isList (size n) = false
-isList (bytes bs) = false
-
-abbrev linesOf : Answer → List (ℕ × Float)
-linesOf (refused n) = []
-linesOf done = []
-linesOf (flag b) = []
-linesOf (slot i) = []
-linesOf (maybeSlot o) = []
-linesOf (maybeKey o) = []
-linesOf (scoreIs x) = []
-linesOf (hits xs) = xs
-linesOf (keyHits xs) = xs
-linesOf (size n) = []
-linesOf (bytes bs) = []
-
-unless-list : (n : ℕ) (b c : Answer) → isList c ≡ true → unless n b ≡ c → (n ≡ 0) × (b ≡ c)
-unless-list zero b c l e = (refl, e)
-unless-list (suc n) b c l e = absurd (true≢false (sym l ∙ ap isList (sym e)))
 
 -- ---- the theorems
 
@@ -257,12 +222,19 @@ module _ (x : Index) (a : Arrays) (q : Query) where
   abbrev slots : List Slot
   slots = stateOf x a .slots
 
-  listed-fits : (op : Op) (c : Answer) → isList c ≡ true → call x a op .answer ≡ c → fit x a ≡ true
-  listed-fits op c l e = go (fit x a) refl
+  -- what is no 13 is answered by record and arrays that fit
+  answered-fits : (op : Op) (c : Answer) → (refused 13 ≡ c → ⊥) → call x a op .answer ≡ c → fit x a ≡ true
+  answered-fits op c other e = go (fit x a) refl
     where
       go : (b : Bool) → fit x a ≡ b → fit x a ≡ true
       go true f = f
-      go false f = absurd (true≢false (sym l ∙ ap isList (sym e ∙ ap (λ (r : Result). r .answer) (call-misfit x a op f))))
+      go false f = absurd (other (sym (ap (λ (r : Result). r .answer) (call-misfit x a op f)) ∙ e))
+
+  hits-fit : (op : Op) (lines : List (ℕ × Float)) → call x a op .answer ≡ hits lines → fit x a ≡ true
+  hits-fit op lines = answered-fits op (hits lines) (λ e. let z : _≡_ {A = ℕ} 0 1 = cc in omega arith)
+
+  keys-fit : (op : Op) (lines : List (ℕ × Float)) → call x a op .answer ≡ keyHits lines → fit x a ≡ true
+  keys-fit op lines = answered-fits op (keyHits lines) (λ e. let z : _≡_ {A = ℕ} 0 1 = cc in omega arith)
 
   module _ (f : fit x a ≡ true) where
     score-call : (i : ℕ) → call x a (score i q) .answer ≡ scoreAnswer head q (getElem? slots i)
@@ -277,8 +249,8 @@ module _ (x : Index) (a : Arrays) (q : Query) where
     by-slot : (cs : List Cell) (k n : ℕ) (lines : List (ℕ × Float)) → RisesBy (λ c. c .number) cs → Each (There slots) cs →
         (n ≡ 0 → queryRefusal head q (hitsOf head q cs) ≡ 0) → unless n (hits (map bySlot (found head q cs k))) ≡ hits lines → InSlotOrder x a q lines
     by-slot cs k n lines up at passed e =
-        let accepted = unless-list n (hits (map bySlot (found head q cs k))) (hits lines) refl e in
-        let same : map bySlot (found head q cs k) ≡ lines = ap linesOf (accepted .1) in
+        let accepted = unless-hits n (map bySlot (found head q cs k)) lines e in
+        let same : map bySlot (found head q cs k) ≡ lines = accepted .1 in
         record {
           rise = λ s. subst (λ (ls : List (ℕ × Float)). RisesBy (λ (l : ℕ × Float). l .0) (alike s ls)) same (lines-rise head q cs k up s);
           own =
@@ -312,7 +284,7 @@ module _ (x : Index) (a : Arrays) (q : Query) where
     keyed-ties k places lines e =
         let n : ℕ = firstOf (shortResult k (length cells) places ∷ queryRefusal head q (hitsOf head q cells) ∷ []) in
         let ys : List Hit = found head q cells k in
-        let accepted = unless-list n (keyHits (byKey [] ys)) (keyHits lines) refl (sym (ap (λ (r : Result). r .answer) (call-fits x a (searchKeyed q k places) f)) ∙ e) in
+        let accepted = unless-keys n (byKey [] ys) lines (sym (ap (λ (r : Result). r .answer) (call-fits x a (searchKeyed q k places) f)) ∙ e) in
         let passed : queryRefusal head q (hitsOf head q cells) ≡ 0 =
         first-none (queryRefusal head q (hitsOf head q cells)) [] (first-none (shortResult k (length cells) places) _ (accepted .0) .1) .0 in
         record {
@@ -321,12 +293,12 @@ module _ (x : Index) (a : Arrays) (q : Query) where
           keys =
               each-weaken (λ y. keyAnswer (getElem? slots (y .number)) ≡ y .key) (λ y. call x a (keyOf (y .number)) .answer ≡ maybeKey (y .key)) ys
               (λ y g. key-call (y .number) ∙ ap maybeKey g) (own-keys head q cells k slots (there slots));
-          named = subst (Each (NamesLowest ys)) (ap linesOf (accepted .1)) (names [] ys (first-lowest ys (sound head q cells k passed) (hits-rise head q cells k (live-rise 0 slots))) [] tt);
+          named = subst (Each (NamesLowest ys)) (accepted .1) (names [] ys (first-lowest ys (sound head q cells k passed) (hits-rise head q cells k (live-rise 0 slots))) [] tt);
         }
 
 pub ties-by-slot : TiesBySlot
-ties-by-slot x a none q k places lines e = search-ties x a q (listed-fits x a q (search q k places) (hits lines) refl e) k places lines e
-ties-by-slot x a (some r) q k places lines e = cascade-ties x a q (listed-fits x a q (searchCascade q k r places) (hits lines) refl e) k r places lines e
+ties-by-slot x a none q k places lines e = search-ties x a q (hits-fit x a q (search q k places) lines e) k places lines e
+ties-by-slot x a (some r) q k places lines e = cascade-ties x a q (hits-fit x a q (searchCascade q k r places) lines e) k r places lines e
 
 pub ties-by-key : TiesByKey
-ties-by-key x a q k places lines e = keyed-ties x a q (listed-fits x a q (searchKeyed q k places) (keyHits lines) refl e) k places lines e
+ties-by-key x a q k places lines e = keyed-ties x a q (keys-fit x a q (searchKeyed q k places) lines e) k places lines e

@@ -25,7 +25,7 @@ abbrev pub alike : (s : Float) → List (ℕ × Float) → List (ℕ × Float)
 alike s lines = keep (λ l. eq (l .1) s) lines
 
 pub record InSlotOrder (x : Index) (a : Arrays) (q : Query) (lines : List (ℕ × Float)) : Type 0 where
-  -- equal looking lines follow slot order
+  -- equal looking lines follow slot order; at s = +0 these are the lines of both zeros
   pub rise : (s : Float) → RisesBy (λ l. l .0) (alike s lines)
   -- each line has the score that its slot has by itself, to the bit: a zero has its own sign
   pub own : Each (λ l. call x a (score (l .0) q) .answer ≡ scoreIs (l .1)) lines
