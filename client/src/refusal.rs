@@ -18,7 +18,6 @@ impl Refusal {
             7 => "a residual index has 4 bits",
             8 => "no room: 65536 slots are in use",
             9 => "there is no such slot",
-            10 => "a single trait can't be scored at 4 bits",
             11 => "the cascade needs 4 bits, and is to be enabled first",
             12 => "a score is NaN",
             13 => "record and lent arrays misfit",

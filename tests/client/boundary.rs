@@ -7,7 +7,7 @@ use vecq::Index;
 
 pub fn check() {
     for (version, width) in [(259, 4), (260, 4), (261, 5), (261, 6)] {
-        for (dim, count) in [(2, 1), (3, 17), (17, 5), (33, 16)] {
+        for (dim, count) in [(1, 9), (2, 1), (3, 17), (17, 5), (33, 16)] {
             let mut stated = Stated::new(version, dim, width, count);
             stated.keys = scattered_keys(count);
             every_call(&format!("version {version}, width {width}, dim {dim}, {count} slots"), &stated);

@@ -8,6 +8,8 @@ from command import Checks, Folder
 
 SEEDS = range(1, 11)
 KINDS = (("--bits", "4"), ("--bits", "5"), ("--bits", "6"), ("--residual",), ())
+# Games with one trait (document 02, Req 05): residual, and of 4 bits.
+ONE_TRAIT = (8, 10)
 # Decimals that a rounding in two steps gets wrong, halfway cases, the ends of the range.
 DECIMALS = (
     "1.00000005960464477539062500000001", "1.000000059604644775390625", "1.00000017881393432617187499999999", "16777217", "16777219", "0.1", "-0.3", "1e-3",
@@ -55,12 +57,10 @@ class Case:
     def __init__(self, seed):
         self.draw, self.folder, self.name = random.Random(seed), Folder(), f"seed {seed}"
         draw = self.draw
-        self.dim = draw.choice((2, 3, 5, 8, 17))
+        self.dim = 1 if seed in ONE_TRAIT else draw.choice((2, 3, 5, 8, 17))
         self.kind = KINDS[seed % len(KINDS)]
         self.index_seed = draw.choice((0, 1, 2**64 - 1, draw.getrandbits(64)))
-        more = ("--working", draw.randrange(1, self.dim + 1)) if "--residual" not in self.kind and draw.random() < 0.4 else ()
-        # A single trait can't be scored at 4 bits.
-        self.more = more if not (more and more[1] == 1 and "4" in self.kind) else ()
+        self.more = ("--working", draw.randrange(1, self.dim + 1)) if "--residual" not in self.kind and draw.random() < 0.4 else ()
         self.folder.done("new", "i.vecq", "--dim", self.dim, "--seed", self.index_seed, *self.kind, *self.more)
         self.rows = [drawn_row(draw, self.dim) for _ in range(draw.randrange(1, 40))]
         self.keys = [draw.choice(("-", "1", "2", "3", "18446744073709551615")) for _ in self.rows]

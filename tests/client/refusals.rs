@@ -1,12 +1,12 @@
 //! Each number of document 01's table that can come through the crate, by the table's example or its smallest input; and after each the index is what it
 //! was. 13 can't come: `Index` keeps the record that the library gave it, lengthens all arrays together, and lends a search min(max(k,1), live) places and a
-//! writing the file's length, so nothing that 13 names can be brought about from outside.
+//! writing the file's length, so nothing that 13 names can be brought about from outside. Padded size 1 at 4 bits is accepted (document 02, Req 05).
 use crate::files::Stated;
 use crate::random::Random;
 use crate::same;
 use crate::snapshot::Snapshot;
 use std::fmt::Debug;
-use vecq::{Error, Index, MOST_SLOTS};
+use vecq::{Error, Hit, Index, KeyHit, MOST_SLOTS};
 
 type Call = fn(&mut Index, &[f32]) -> Result<(), Error>;
 
@@ -187,24 +187,76 @@ fn no_slot() {
     }
 }
 
-/// 10.
+/// A game with one trait at 4 bits (document 02, Req 05) is scored and listed; 9, 1, 2, 3 and 12 as elsewhere.
 fn one_trait() {
     for residual in [false, true] {
         let mut one = if residual { Index::with_residual(1, 1) } else { Index::new(1, 1) }.expect("an index is made");
         one.set_bits(4).expect("a width is set");
         one.enable_cascade().expect("the cascade is enabled");
         same::equal("no slot to score", one.search(&[1.0], 3), Ok(Vec::new()));
-        refused("9 before 10", &mut one, 9, |index| index.score(0, &[1.0]));
+        refused("no slot in use", &mut one, 9, |index| index.score(0, &[1.0]));
         one.add_keyed(5, &[1.0]).expect("a slot is added");
         one.enable_cascade().expect("the cascade is enabled");
         for (name, call) in [&SCORE].into_iter().chain(&SEARCHES) {
-            refused(&format!("{name}, dim 1 at 4 bits"), &mut one, 10, |index| call(index, &[2.0]));
-            refused(&format!("{name}: 2 before 10"), &mut one, 2, |index| call(index, &[0.0]));
+            accepted(&format!("{name}, dim 1 at 4 bits"), call(&mut one, &[2.0]));
+            for (vector, number) in [(&[2.0, 3.0][..], 1), (&[0.0], 2), (&[1e30], 3)] {
+                refused(&format!("{name} of {vector:?}, dim 1 at 4 bits"), &mut one, number, |index| call(index, vector));
+            }
         }
+        refused("slot 1 of 1", &mut one, 9, |index| index.score(1, &[1.0]));
     }
-    let mut five = Index::new(1, 1).expect("an index is made");
-    five.add(&[1.0]).expect("a slot is added");
-    accepted("dim 1 at 5 bits", five.score(0, &[1.0]).map(drop));
+    // The first sign of seed 1 is -1: 3 becomes -1, which has code 3 and a scale of 1.1266743, one over 0.887568. Their product is 1.
+    let mut plain = Index::new(1, 1).expect("an index is made");
+    plain.set_bits(4).expect("a width is set");
+    plain.add(&[3.0]).expect("a slot is added");
+    same::equal("a score by hand", plain.score(0, &[0.5]), Ok(1.0));
+    same::equal("its opposite", plain.score(0, &[-0.5]), Ok(-1.0));
+    for version in [259, 260] {
+        one_trait_read(version);
+    }
+}
+
+/// Four slots of scale 1 with codes 3, 11, 15 and 7 under any high four bits. A residual file has them twice, so its scores are twice those of the other.
+fn one_trait_read(version: u16) {
+    let mut stated = Stated::new(version, 1, 4, 4);
+    stated.keys = vec![(0, 5), (1, 6), (3, 5)];
+    let stages = if version == 260 { 2 } else { 1 };
+    let mut file = stated.bytes(&mut Random::new(10));
+    for stage in 0..stages {
+        let at = stated.first_scale() + 12 * stage;
+        file[at..at + 12].copy_from_slice(&[0, 0x3C, 0, 0x3C, 0, 0x3C, 0, 0x3C, 0xF3, 0x1B, 0x0F, 0x97]);
+    }
+    let mut index = Index::from_bytes(&file, 0).expect("a file is read");
+    index.enable_cascade().expect("the cascade is enabled");
+    // The seed is 1, so the query 2 becomes -1, of code 3: the codes are 0, 2, 3 and 1 from it. The scores are the centroids' opposites.
+    let scores = [0.887_568, -0.987_35, -2.724_265, -0.049_892].map(|score: f32| stages as f32 * score);
+    let hits = |slots: &[u32]| Ok(slots.iter().map(|&slot| Hit { slot, score: scores[slot as usize] }).collect::<Vec<Hit>>());
+    for slot in 0..4 {
+        same::equal("a score by hand", index.score(slot, &[2.0]), Ok(scores[slot]));
+        same::equal("its opposite", index.score(slot, &[-2.0]), Ok(-scores[slot]));
+    }
+    same::equal("search", index.search(&[2.0], 9), hits(&[0, 3, 1, 2]));
+    same::equal("search, k 0", index.search(&[-2.0], 0).map(|hits| hits.iter().map(|hit| hit.slot).collect()), Ok(vec![2]));
+    same::equal("search_keyed", index.search_keyed(&[2.0], 4), Ok(vec![KeyHit { key: 5, score: scores[0] }, KeyHit { key: 6, score: scores[1] }]));
+    for (k, r, slots) in [(1, 1, &[0][..]), (2, 2, &[0, 3]), (2, 3, &[0, 3]), (3, 0, &[0, 3, 1]), (9, 9, &[0, 3, 1, 2])] {
+        same::equal(&format!("search_cascade, k {k}, r {r}"), index.search_cascade(&[2.0], k, r), hits(slots));
+    }
+    // An overwrite keeps the high four bits: -2 becomes 1, of code 11, and what is left of it is above 0, so code 11 again.
+    index.add_keyed(5, &[-2.0]).expect("a slot is overwritten");
+    let written = index.to_bytes().expect("a file is written");
+    for stage in 0..stages {
+        let at = stated.first_scale() + 12 * stage + 8;
+        same::equal("code bytes after an overwrite", &written[at..at + 4], &[0xFB, 0x1B, 0x0F, 0x97][..]);
+    }
+    // A NaN in slot 2, which is no candidate of the two nearest.
+    let at = stated.first_scale() + 4;
+    file[at..at + 2].copy_from_slice(&0x7E00u16.to_le_bytes());
+    let mut index = Index::from_bytes(&file, 0).expect("a file is read");
+    index.enable_cascade().expect("the cascade is enabled");
+    refused("score of a NaN", &mut index, 12, |index| index.score(2, &[2.0]));
+    refused("search over a NaN", &mut index, 12, |index| index.search(&[2.0], 1));
+    refused("search_cascade over a NaN", &mut index, 12, |index| index.search_cascade(&[2.0], 1, 4));
+    same::equal("search_cascade beside a NaN", index.search_cascade(&[2.0], 2, 2), hits(&[0, 3]));
 }
 
 /// 11, before the query's numbers.
@@ -302,11 +354,12 @@ fn versions(file: &[u8]) {
     turned_down("an unknown version", 16, Index::version(&Stated::new(258 + 4, 4, 4, 0).bytes(&mut Random::new(1))));
 }
 
-/// Each number has words of its own, behind `refused N: `.
+/// Each number that a call may give has words of its own, behind `refused N: `.
 fn words() {
-    let texts: Vec<String> = (1..=20).map(|number| Error::from(number).to_string()).collect();
-    for (i, text) in texts.iter().enumerate() {
-        same::check("words", text.starts_with(&format!("refused {}: ", i + 1)), || text.clone());
+    let numbers: Vec<u8> = (1..=9).chain(11..=20).collect();
+    let texts: Vec<String> = numbers.iter().map(|&number| Error::from(number).to_string()).collect();
+    for (number, text) in numbers.iter().zip(&texts) {
+        same::check("words", text.starts_with(&format!("refused {number}: ")), || text.clone());
         let words = text.split_once(": ").map(|parts| parts.1);
         let alone = texts.iter().filter(|other| other.split_once(": ").map(|parts| parts.1) == words).count() == 1;
         same::check("words of its own", alone && words != Error::from(21).to_string().split_once(": ").map(|parts| parts.1), || text.clone());

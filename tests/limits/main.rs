@@ -1,13 +1,24 @@
-//! The static library at the limits of document 01, with the Rust as judge where the document has it compared. Any difference makes the status 1.
+//! The static library at the limits of document 01, with the Rust as judge where the document has it compared, and a model of document 02's sentences where the
+//! Rust stops at games with one trait. Any difference makes the status 1.
 mod adds;
 mod files;
 mod kept;
 mod results;
 mod sizes;
+mod traits;
 
+// The oracle's files have the Rust core under this name.
+extern crate vecq_scalar as vecq;
+
+#[allow(dead_code)] // the oracle uses more of it
+#[path = "../oracle/choice.rs"]
+mod choice;
 #[allow(dead_code)] // the benchmark uses more of it
 #[path = "../bench/data.rs"]
 mod data;
+#[allow(dead_code)] // the oracle uses more of it
+#[path = "../oracle/one_trait.rs"]
+mod one_trait;
 #[allow(dead_code)] // the oracle uses more of it
 #[path = "../oracle/random.rs"]
 mod random;
@@ -27,7 +38,7 @@ use std::time::Instant;
 pub const MOST_SLOTS: usize = 65_536;
 pub const MOST_DIM: usize = 4096;
 
-const PARTS: [(&str, fn()); 8] = [
+const PARTS: [(&str, fn()); 9] = [
     ("65,536 adds one after another, and one more", adds::one_after_another),
     ("the last two adds under each kind of keys, places freed by compaction", adds::the_last),
     ("a record of 65,537 slots over long arrays", adds::past_the_most),
@@ -36,6 +47,7 @@ const PARTS: [(&str, fn()); 8] = [
     ("65,536 slots listed", results::every_slot),
     ("files of 65,536 slots", files::written_and_read),
     ("4,096 entries at every width", sizes::most_entries),
+    ("65,536 games with one trait at 4 bits", traits::most_slots),
 ];
 
 fn main() -> ExitCode {

@@ -116,7 +116,7 @@ impl Table {
                 bump(&mut self.left_out_refusals, number);
             }
             if ours != answer {
-                self.differ("left out of the comparison, and not document 01's answer", at, asked, ours, told);
+                self.differ("left out of the comparison, and not the documents' answer", at, asked, ours, told);
             }
             return;
         }
@@ -164,7 +164,7 @@ impl Table {
         println!("{lines:9}  lines");
         rows("compared with the Rust", &self.compared);
         refusals("refused, of these", &self.compared_refusals);
-        rows("left out of the comparison, and held to document 01's answer", &self.left_out);
+        rows("left out of the comparison, and held to the documents' answer", &self.left_out);
         refusals("refused, of these", &self.left_out_refusals);
         rows("without a call, held to the language", &self.language);
         rows("differences", &self.differences);

@@ -3,6 +3,7 @@ use crate::choice::{chosen, has_minus_zero, order_number};
 use crate::halves::{reading, subnormal};
 use crate::language::{self, Call, Line};
 use crate::model::{block_size, dump, fits, Arrays, Record, MOST_DIM, MOST_IN_USE};
+use crate::one_trait;
 use crate::text::{bytes, eight};
 use crate::twin;
 use std::cell::Cell;
@@ -29,6 +30,8 @@ pub enum Reason {
     SubnormalHalf,
     /// a score to be ranked is -0 (document 02, Req 04)
     MinusZero,
+    /// padded size 1 at 4 bits, where the Rust panics (document 02, Req 05)
+    OneTrait,
     /// `set` or `field` led where no call of the Rust does
     Poked,
 }
@@ -43,6 +46,7 @@ impl fmt::Display for Reason {
             Reason::WidthCall => write!(f, "ours, width call and cascade"),
             Reason::SubnormalHalf => write!(f, "ours, subnormal half"),
             Reason::MinusZero => write!(f, "a score is -0"),
+            Reason::OneTrait => write!(f, "one trait at 4 bits"),
             Reason::Poked => write!(f, "set by hand"),
         }
     }
@@ -53,7 +57,7 @@ pub enum Answer {
     Rust(String),
     /// a line without a call: its answer is the language's
     Language(String),
-    /// outside the comparison; the answer is document 01's
+    /// outside the comparison; the answer is that of documents 01 and 02
     Outside(Reason, String),
 }
 
@@ -293,12 +297,10 @@ impl Driver {
                 says("ok")
             }
             Call::Score(slot, query) => self.score(slot, &query),
-            Call::Search { k, places, query } => self.search(k, places, &query, |index, hits| {
-                (list(&arranged(index.search(&query, k))), list(hits))
-            }),
-            Call::SearchKeyed { k, places, query } => self.search(k, places, &query, |index, hits| {
-                (list(&keyed_list(index, &query, k)), list(&by_key(index, hits)))
-            }),
+            Call::Search { k, places, query } => self.search(k, places, &query, |index| list(&arranged(index.search(&query, k))), list),
+            Call::SearchKeyed { k, places, query } => {
+                self.search(k, places, &query, |index| list(&keyed_list(index, &query, k)), |hits| list(&by_key(&self.index, hits)))
+            }
             Call::SearchCascade { k, r, places, query } => self.search_cascade(k, r, places, &query),
             Call::Compact => self.compact(),
             Call::Length => says(&format!("length {:x}", self.index.to_bytes().len())),
@@ -309,10 +311,15 @@ impl Driver {
         }
     }
 
-    /// A refusal at which the Rust stops, as is seen on a copy.
-    fn stopped<T>(&self, number: u8, call: impl FnOnce(&mut VecqIndex) -> T) -> Answer {
+    /// Whether the Rust stops, as is seen on a copy.
+    fn stops<T>(&self, call: impl FnOnce(&mut VecqIndex) -> T) -> bool {
         let mut copy = self.index.clone();
-        assert!(tried(|| call(&mut copy)).is_none(), "the Rust goes on where document 01 has {number}");
+        tried(|| call(&mut copy)).is_none()
+    }
+
+    /// A refusal at which the Rust stops.
+    fn stopped<T>(&self, number: u8, call: impl FnOnce(&mut VecqIndex) -> T) -> Answer {
+        assert!(self.stops(call), "the Rust goes on where document 01 has {number}");
         refused(Reason::Stops, number)
     }
 
@@ -391,9 +398,8 @@ impl Driver {
 
     // ---- scores
 
-    /// 10: padded size 1 at 4 bits
-    fn tiny(&self) -> bool {
-        self.record.working_dim == 1 && self.record.bits == 4
+    fn is_one_trait(&self) -> bool {
+        one_trait::is_meant(self.record.working_dim, self.record.bits)
     }
 
     fn score(&self, slot: usize, query: &[f32]) -> Answer {
@@ -406,11 +412,17 @@ impl Driver {
             let far = slot >= usize::MAX / (self.record.block_size() + 1);
             return if far { refused(Reason::Stops, 9) } else { self.stopped(9, |index| scored(index)) };
         }
-        if self.tiny() {
-            return self.stopped(10, |index| scored(index));
+        let score = self.scores(query, vec![slot])[0].1;
+        if self.is_one_trait() {
+            return self.defined(score.is_nan(), |index| scored(index), || format!("score {}", eight(score)));
         }
-        let score = scored(&self.index);
         if score.is_nan() { lacks(12) } else { says(&format!("score {}", eight(score))) }
+    }
+
+    /// The answer by document 02 (Req 05), 12 if a score is a NaN. The Rust must stop there.
+    fn defined<T>(&self, nan: bool, call: impl FnOnce(&mut VecqIndex) -> T, answer: impl FnOnce() -> String) -> Answer {
+        assert!(self.stops(call), "the Rust scores a game with one trait at 4 bits");
+        if nan { refused(Reason::OneTrait, 12) } else { Answer::Outside(Reason::OneTrait, answer()) }
     }
 
     /// 13 of a result: "for min(max(k,1), live) places"
@@ -423,63 +435,67 @@ impl Driver {
     }
 
     fn scores(&self, query: &[f32], slots: Vec<usize>) -> Vec<(usize, f32)> {
+        if self.is_one_trait() {
+            let query = one_trait::Query::of(&self.index, query);
+            return slots.into_iter().map(|slot| (slot, query.score(one_trait::stages(&self.index, slot)))).collect();
+        }
         let query = self.index.prepare_query(query);
         slots.into_iter().map(|slot| (slot, self.index.score(&query, slot))).collect()
     }
 
-    /// `lists` gives the Rust's list, and by document 01 that of these hits.
-    fn search(&self, k: usize, places: usize, query: &[f32], lists: impl Fn(&VecqIndex, &[(usize, f32)]) -> (String, String)) -> Answer {
-        let call = |index: &mut VecqIndex| lists(index, &[]);
+    /// `theirs` is the Rust's list, `ours` that of these hits.
+    fn search(&self, k: usize, places: usize, query: &[f32], theirs: impl Fn(&VecqIndex) -> String, ours: impl FnOnce(&[(usize, f32)]) -> String) -> Answer {
         if self.short(k, places) {
             return lacks(13);
         }
         if let Some(number) = fault(&self.record, query) {
-            return self.faulty(number, call);
+            return self.faulty(number, |index| theirs(index));
         }
-        if self.tiny() && self.record.live > 0 {
-            return self.stopped(10, call);
-        }
-        let scores = self.scores(query, self.live_slots());
-        self.ranked(&scores, k, |hits| lists(&self.index, hits))
+        self.ranked(&self.scores(query, self.live_slots()), k, theirs, ours)
     }
 
-    /// 12, or the list: the Rust's, unless a score is -0. Where it is the Rust's, ours by document 01 is the same.
-    fn ranked(&self, scores: &[(usize, f32)], k: usize, lists: impl FnOnce(&[(usize, f32)]) -> (String, String)) -> Answer {
-        if scores.iter().any(|hit| hit.1.is_nan()) {
+    /// 12, or the list: the Rust's, unless it stops at one trait or a score is -0. Where it is the Rust's, ours by documents 01 and 02 is the same.
+    fn ranked(&self, scores: &[(usize, f32)], k: usize, theirs: impl Fn(&VecqIndex) -> String, ours: impl FnOnce(&[(usize, f32)]) -> String) -> Answer {
+        let nan = scores.iter().any(|hit| hit.1.is_nan());
+        let ours = || ours(&chosen(scores, k));
+        if self.is_one_trait() && !scores.is_empty() {
+            return self.defined(nan, |index| theirs(index), ours);
+        }
+        if nan {
             return lacks(12);
         }
-        let (theirs, ours) = lists(&chosen(scores, k));
+        let ours = ours();
         if has_minus_zero(scores) {
             return Answer::Outside(Reason::MinusZero, ours);
         }
-        assert_eq!(theirs, ours, "the Rust's choice of slots is not document 01's");
-        Answer::Rust(theirs)
+        assert_eq!(theirs(&self.index), ours, "the Rust's choice of slots is not document 01's");
+        Answer::Rust(ours)
     }
 
     fn search_cascade(&self, k: usize, r: usize, places: usize, query: &[f32]) -> Answer {
-        let call = |index: &VecqIndex| index.search_cascade(query, k, r);
+        let theirs = |index: &VecqIndex| list(&arranged(index.search_cascade(query, k, r)));
         if self.short(k, places) {
             return lacks(13);
         }
         if !self.record.cascade {
-            return self.stopped(11, |index| call(index));
+            return self.stopped(11, |index| theirs(index));
         }
         if self.record.bits != 4 {
             return refused(Reason::Poked, 11);
         }
         if let Some(number) = fault(&self.record, query) {
-            return self.faulty(number, |index| call(index));
-        }
-        if self.tiny() && self.record.live > 0 {
-            return self.stopped(10, |index| call(index));
+            return self.faulty(number, |index| theirs(index));
         }
         // "its 12 over candidates only"
-        let scores = self.scores(query, self.candidates(k, r, query));
-        self.ranked(&scores, k, |hits| (list(&arranged(call(&self.index))), list(hits)))
+        self.ranked(&self.scores(query, self.candidates(k, r, query)), k, theirs, list)
     }
 
     /// The slots that a cascade scores, in slot order: all that the Rust lists of an index with the same codes and sound scales, asked for as many as it scores.
     fn candidates(&self, k: usize, r: usize, query: &[f32]) -> Vec<usize> {
+        if self.is_one_trait() {
+            let live: Vec<(usize, u8)> = self.live_slots().into_iter().map(|slot| (slot, self.index.codes[slot])).collect();
+            return one_trait::Query::of(&self.index, query).candidates(&live, k, r);
+        }
         let mut sound = self.index.clone();
         sound.scales.fill(1.0);
         sound.scales2.fill(1.0);

@@ -1,6 +1,7 @@
 //! The lists of the program `encodings`: encodings, prepared queries, scores and order numbers against the Rust.
 use crate::choice::order_number;
 use crate::list::List;
+use crate::one_trait;
 use crate::random::Random;
 use crate::text::{bytes, eight, pattern, vector};
 use std::panic::{catch_unwind, set_hook, AssertUnwindSafe};
@@ -116,9 +117,18 @@ fn prepare(list: &mut List, h: Header, v: &[f32]) {
     list.ask(format!("prepare {} {}", h.space(), vector(v)), answer);
 }
 
+/// The Rust's score of the one slot of an index; where it stops at a game with one trait, document 02's.
+fn slot_score(index: &VecqIndex, v: &[f32]) -> f32 {
+    let query = index.prepare_query(v);
+    if !one_trait::is_meant(index.working_dim(), index.bits()) {
+        return index.score(&query, 0);
+    }
+    assert!(catch_unwind(AssertUnwindSafe(|| index.score(&query, 0))).is_err(), "the Rust scores a game with one trait at 4 bits");
+    one_trait::Query::of(index, v).score(one_trait::stages(index, 0))
+}
+
 /// The scales are patterns: a NaN's is asked for too.
 fn score(list: &mut List, h: Header, stage: (u32, &[u8]), stage2: (u32, &[u8]), v: &[f32]) {
-    assert!(h.width != 4 || h.padded() != 1, "there the Rust stops");
     let answer = judged(&h, v, || {
         let mut index = h.index();
         index.add(&vec![1.0; h.dim]);
@@ -128,7 +138,7 @@ fn score(list: &mut List, h: Header, stage: (u32, &[u8]), stage2: (u32, &[u8]), 
             index.codes2.copy_from_slice(stage2.1);
             index.scales2[0] = f32::from_bits(stage2.0);
         }
-        let score = index.score(&index.prepare_query(v), 0);
+        let score = slot_score(&index, v);
         if score.is_nan() { "refused 12".to_string() } else { format!("score {}", eight(score)) }
     });
     let first = format!("{:x} {} {:x} {}", h.width, h.space(), stage.0, bytes(stage.1));
@@ -203,6 +213,7 @@ pub fn list() -> List {
     queries(&mut list);
     scores(&mut list);
     score_edges(&mut list);
+    one_trait_scores(&mut list);
     orders(&mut list);
     language(&mut list);
     list
@@ -394,6 +405,7 @@ fn scores(list: &mut List) {
     let mut random = Random::new(22);
     for dim in (1..=40).chain([64, 100, 255, 256, 1000, 4096]) {
         for mode in MODES {
+            // A game with one trait at 4 bits has a section of its own.
             if mode.0 == 4 && dim == 1 || dim == 4096 && mode.0 == 5 {
                 continue;
             }
@@ -420,13 +432,16 @@ fn any_score(list: &mut List, h: Header, kind: Kind, random: &mut Random) {
     score(list, h, (scale(random), &block), (scale(random), &block2), &v);
 }
 
+fn scale_edges() -> impl Iterator<Item = u32> {
+    [0, 1, 0x007F_FFFF, 0x0080_0000, 0x3F80_0000, 0x7F7F_FFFF, 0x7F80_0000, 0x7F80_0001, 0x7FC0_0000].into_iter().flat_map(|p: u32| [p, p | 0x8000_0000])
+}
+
 fn score_edges(list: &mut List) {
     list.section("score, score2: scales that are zeros, infinities, NaNs, subnormal or large (12 where the Rust's score is a NaN); queries that are refused");
     let mut random = Random::new(23);
-    let edges = [0, 1, 0x007F_FFFF, 0x0080_0000, 0x3F80_0000, 0x7F7F_FFFF, 0x7F80_0000, 0x7F80_0001, 0x7FC0_0000].into_iter().flat_map(|p: u32| [p, p | 0x8000_0000]);
     for mode in MODES {
         let h = Header::new(mode, 6, 3);
-        for p in edges.clone() {
+        for p in scale_edges() {
             let (block, block2) = (h.block(&mut random), h.block(&mut random));
             let v = entries(6, &mut random, Kind::Units);
             score(list, h, (p, &block), (p, &block2), &v);
@@ -436,6 +451,39 @@ fn score_edges(list: &mut List) {
         let block = h.block(&mut random);
         for v in faulty(6) {
             score(list, h, (0x7FC0_0000, &block), (0, &block), &v);
+        }
+    }
+}
+
+fn one_trait_scores(list: &mut List) {
+    list.section("score, score2: games with one trait at 4 bits, where the Rust stops, by document 02 (Req 05): every code, high four bits set, any scales and queries, edges");
+    let mut random = Random::new(26);
+    for (dim, seed) in [(1, 2), (1, 1), (2, 2), (3, 1), (17, 0)] {
+        for mode in [(4, false), (4, true)] {
+            let h = Header { working: 1, ..Header::new(mode, dim, seed) };
+            let mut v = vec![f32::NAN; dim];
+            v[0] = -2.5;
+            for byte in (0..16).flat_map(|code| [code, 0x10 + code, 0xF0 + code]) {
+                score(list, h, (0x3F80_0000, &[byte]), (0x3F00_0000, &[!byte]), &v);
+            }
+            for kind in KINDS {
+                for _ in 0..3 {
+                    v[0] = entries(1, &mut random, kind)[0];
+                    score(list, h, (scale(&mut random), &h.block(&mut random)), (scale(&mut random), &h.block(&mut random)), &v);
+                }
+            }
+        }
+    }
+    for mode in [(4, false), (4, true)] {
+        let h = Header { working: 1, ..Header::new(mode, 2, 2) };
+        for p in scale_edges() {
+            for byte in [0x1F, 6] {
+                score(list, h, (p, &[byte]), (p, &[byte]), &[1.0, f32::NAN]);
+                score(list, h, (p, &[byte]), (p ^ 0x8000_0000, &[byte]), &[-1.0, 0.0]);
+            }
+        }
+        for v in faulty(2) {
+            score(list, h, (0x7FC0_0000, &[0xF]), (0, &[0xF]), &v);
         }
     }
 }
@@ -483,6 +531,8 @@ fn language(list: &mut List) {
     list.ask(format!("over 4 1 2 2 1 01 - {v}"), "01 00000000 - 00000000".to_string());
     list.ask(format!("over 5 0 2 2 1 - - {v}"), "- 00000000".to_string());
     list.ask(format!("score 6 2 2 1 3f800000 01 {v}"), "score 00000000".to_string());
+    list.ask("score 4 1 1 1 3f800000 - 3f800000".to_string(), "score 00000000".to_string());
+    list.ask("score 4 1 1 1 3f800000 0f0f 3f800000".to_string(), "score 00000000".to_string());
 }
 
 // ---- a list of random lines
@@ -519,7 +569,6 @@ fn random_line(list: &mut List, random: &mut Random) {
         2 | 3 => over(list, h, &h.block(random), &h.block(random), &entries(dim, random, kind)),
         4 => prepare(list, h, &entries(dim, random, kind)),
         5 => encode(list, h, &entries(random_dim(random).min(41), random, kind)),
-        _ if h.width == 4 && h.padded() == 1 => encode(list, h, &entries(dim, random, kind)),
         _ => any_score(list, h, kind, random),
     }
 }

@@ -1,6 +1,6 @@
-//! The fixed list of the program `exercise`. The Rust's answer stands where the line is inside the comparison; the answers to all other lines are
-//! written here, from document 01 and from the language.
-use crate::driver::{Answer, Driver};
+//! The fixed list of the program `exercise`. The Rust's answer stands where the line is inside the comparison, that of `one_trait.rs` where the Rust stops at a game
+//! with one trait; the answers to all other lines are written here, from documents 01 and 02 and from the language.
+use crate::driver::{Answer, Driver, Reason};
 use crate::language::Array;
 use crate::list::List;
 use crate::model::block_size;
@@ -10,6 +10,7 @@ use crate::text::{bytes, vector};
 #[derive(Default)]
 struct Tally {
     rust: usize,
+    one_trait: usize,
     language: usize,
     stated: usize,
 }
@@ -30,12 +31,13 @@ impl Fixed {
         self.list.ask(format!("# {text}"), String::new());
     }
 
-    /// A line whose answer is the Rust's, or the language's `ok`.
+    /// A line whose answer is the Rust's, that of the definition of games with one trait, or the language's `ok`.
     fn ask(&mut self, line: impl Into<String>) {
         let line = line.into();
         let answer = self.driver.answer(line.as_bytes());
         match &answer {
             Answer::Rust(_) => self.tally.rust += 1,
+            Answer::Outside(Reason::OneTrait, _) => self.tally.one_trait += 1,
             Answer::Language(text) if text == "ok" => self.tally.language += 1,
             _ => panic!("{line}: its answer must be stated, the driver has {answer}"),
         }
@@ -46,7 +48,7 @@ impl Fixed {
         lines.iter().for_each(|&line| self.ask(line));
     }
 
-    /// A line outside the comparison, or without a call, with the answer that document 01 or the language has. The driver's reading must be the same.
+    /// A line outside the comparison, or without a call, with the answer that document 01, 02 or the language has. The driver's reading must be the same.
     fn told(&mut self, line: impl Into<String>, answer: &str) {
         let line = line.into();
         let theirs = self.driver.answer(line.as_bytes());
@@ -61,7 +63,7 @@ impl Fixed {
         let line = line.into();
         let answer = self.driver.clone().answer(line.as_bytes());
         match answer {
-            Answer::Rust(_) => self.ask(line),
+            Answer::Rust(_) | Answer::Outside(Reason::OneTrait, _) => self.ask(line),
             _ => self.told(line, answer.text()),
         }
         answer.text().to_string()
@@ -96,6 +98,13 @@ pub fn list() -> List {
     zeros(&mut fixed);
     cascades(&mut fixed);
     search_refusals(&mut fixed);
+    one_trait_codes(&mut fixed);
+    one_trait_residual(&mut fixed);
+    one_trait_zeros(&mut fixed);
+    one_trait_scales(&mut fixed);
+    one_trait_slots(&mut fixed);
+    one_trait_files(&mut fixed);
+    one_trait_refusals(&mut fixed);
     files(&mut fixed);
     readings(&mut fixed);
     cuts_and_damage(&mut fixed);
@@ -108,8 +117,8 @@ pub fn list() -> List {
     histories(&mut fixed);
     twins(&mut fixed);
     unreadable(&mut fixed);
-    let Tally { rust, language, stated } = fixed.tally;
-    println!("{rust:6}  answers of the Rust, {language} ok of the language, {stated} stated");
+    let Tally { rust, one_trait, language, stated } = fixed.tally;
+    println!("{rust:6}  answers of the Rust, {one_trait} of the definition of games with one trait, {language} ok of the language, {stated} stated");
     fixed.list
 }
 
@@ -460,8 +469,8 @@ fn vectors(f: &mut Fixed) {
 
 // ---- scores
 
-/// Three slots, the one in the middle dead, each scored by two queries. `outside` is the answer where the Rust has none.
-fn scored(f: &mut Fixed, dim: usize, making: &str, width: u8, outside: Option<&str>) {
+/// Three slots, the one in the middle dead, each scored by two queries.
+fn scored(f: &mut Fixed, dim: usize, making: &str, width: u8) {
     f.asks(&[making, &format!("bits {width:x}")]);
     f.ask(format!("add {}", nth(dim, 1)));
     f.ask(format!("add_keyed 7 {}", nth(dim, 2)));
@@ -469,11 +478,7 @@ fn scored(f: &mut Fixed, dim: usize, making: &str, width: u8, outside: Option<&s
     f.ask("remove 7");
     for slot in 0..3 {
         for query in [1, 4] {
-            let line = format!("score {slot} {}", nth(dim, query));
-            match outside {
-                Some(answer) => f.told(line, answer),
-                None => f.ask(line),
-            }
+            f.ask(format!("score {slot} {}", nth(dim, query)));
         }
     }
 }
@@ -483,13 +488,9 @@ fn scores(f: &mut Fixed) {
     for dim in 1..=17 {
         f.lend(3, block_size(dim, 6));
         for width in [4, 5, 6] {
-            let tiny = (dim == 1 && width == 4).then_some("refused 10");
-            if tiny.is_some() {
-                f.label("10, document 01's example: dim 1, at 4 bits");
-            }
-            scored(f, dim, &format!("new {dim:x} {:x}", 17 * dim), width, tiny);
+            scored(f, dim, &format!("new {dim:x} {:x}", 17 * dim), width);
         }
-        scored(f, dim, &format!("residual {dim:x} {:x}", 19 * dim), 4, (dim == 1).then_some("refused 10"));
+        scored(f, dim, &format!("residual {dim:x} {:x}", 19 * dim), 4);
     }
     f.section("score: what is refused, and in which order");
     let w = nth(4, 1);
@@ -520,11 +521,7 @@ fn scores(f: &mut Fixed) {
     f.label("13 before all");
     f.ask("field live 2");
     f.told(format!("score 3 {}", v(&[1.0])), "refused 13");
-    f.label("9 before 10");
-    f.lend(3, 4);
-    f.asks(&["new 1 1", "bits 4", "add 40400000"]);
-    f.told("score 0 3f800000", "refused 10");
-    f.told("score 1 3f800000", "refused 9");
+    f.label("lines that can't be read");
     f.told_all(&["score", "score 0", "score 3f800000", "score 0 3f800000 3f800000", "score 00 3f800000", "score 0 3f80000"], "?");
 }
 
@@ -555,9 +552,6 @@ fn searches(f: &mut Fixed) {
     f.section("searches: dims 1 to 17, each width and the residual, a dead slot among six; k of 0, 1, 3, as many as live, more");
     for dim in 1..=17 {
         for (making, width) in [("new", 4), ("new", 5), ("new", 6), ("residual", 4)] {
-            if dim == 1 && width == 4 {
-                continue;
-            }
             f.lend(6, block_size(dim, 6));
             f.asks(&[&format!("{making} {dim:x} {:x}", 23 * dim), &format!("bits {width:x}")]);
             for (number, key) in [Some(7), None, Some(8), Some(7), None, Some(9)].into_iter().enumerate() {
@@ -574,7 +568,7 @@ fn searches(f: &mut Fixed) {
         }
     }
     f.section("searches: fewer working dimensions, entries past them");
-    for (dim, working, width) in [(2, 1, 5), (3, 2, 6), (5, 4, 4), (9, 8, 5), (16, 5, 4), (17, 16, 6)] {
+    for (dim, working, width) in [(2, 1, 4), (2, 1, 5), (3, 2, 6), (5, 4, 4), (9, 8, 5), (16, 5, 4), (17, 1, 4), (17, 16, 6)] {
         f.lend(4, block_size(working, 6));
         f.asks(&[&format!("working {dim:x} {working:x} 3"), &format!("bits {width:x}")]);
         for number in 0..4 {
@@ -601,13 +595,11 @@ fn searches(f: &mut Fixed) {
     for k in [0, 1, 5] {
         search_all(f, k, 0, &w, true);
     }
-    f.label("at 4 bits padded size 1 is 10 where there is a live slot, and only there");
+    f.label("padded size 1 at 4 bits: empty, one slot live, one slot dead");
     f.asks(&["new 1 1", "bits 4", "enable"]);
     search_all(f, 1, 1, "40400000", true);
     f.asks(&["add_keyed 7 40400000", "enable"]);
-    for search in ["search 1 1", "search_keyed 1 1", "search_cascade 1 1 1"] {
-        f.told(format!("{search} 40400000"), "refused 10");
-    }
+    search_all(f, 1, 1, "40400000", true);
     f.ask("remove 7");
     search_all(f, 1, 1, "40400000", true);
     f.asks(&["new 1 1", "bits 5", "add_keyed 7 40400000", "add c0400000"]);
@@ -840,6 +832,468 @@ fn search_refusals(f: &mut Fixed) {
     f.ask("set scales 3 3f800000");
     f.either(format!("search 1000 1000 {w}"));
     f.either(format!("search_keyed ffffffffffffffff 1000 {w}"));
+}
+
+// ---- games with one trait (document 02, Req 05)
+
+const ONE: u32 = 0x3f80_0000;
+const MINUS: u32 = 0x8000_0000;
+/// The centroids of the codes at 4 bits, each the binary32 nearest to its decimal: the scores under a prepared entry and a scale of 1.
+const CENTROIDS: [u32; 16] = [
+    0xbfff_8099, 0xbfc1_9097, 0xbf96_168b, 0xbf63_37a8, 0xbf21_ec1c, 0xbeca_82e8, 0xbe2d_f7e8, 0x3d4c_5b8e, 0x3e8a_1294, 0x3efd_9989, 0x3f3b_776c, 0x3f7c_c2f8,
+    0x3fa2_dc33, 0x3fce_563f, 0x4006_2321, 0x402e_5a5c,
+];
+
+/// A vector whose first entry has this pattern, with NaNs after it.
+fn with_trait(dim: usize, entry: u32) -> String {
+    let mut entries = vec![f32::NAN; dim];
+    entries[0] = f32::from_bits(entry);
+    v(&entries)
+}
+
+/// A query worked out by hand over slots that have their numbers as codes and scales of 1.
+struct ByHand {
+    query: u32,
+    /// of the prepared entry, which is 1 or -1
+    sign: u32,
+    /// The codes' top two bits by rising distance, equals by rising slot.
+    near: [usize; 4],
+}
+
+/// The first sign of seed 1 is -1 (document 01); that of seed 2 is 1, since its first output is twice the other. Four queries, rotated by the sign 1:
+/// - 1 stays 1. Eleven boundaries are below it, 0.868960 the last: code 11, top two bits 2.
+/// - -3 becomes -1. Three are below it, -1.026996 the last: code 3, top two bits 0.
+/// - 1.6875 times 2^-75: its square, 1.42 times 2^-149, rounds to 2^-149, whose root is 1.41421354 times 2^-75. So the rotated entry is 1.193, which rnorm makes 1.
+///   The code is taken of 1.193, above 1.125026 and below 1.413956: 12, top two bits 3.
+/// - -1.0625 times 2^-75: its square, 0.56 times 2^-149, rounds to 2^-149 too. The rotated entry is -0.7513, above -0.756128: code 4, top two bits 1.
+///
+/// By the sign -1 they are -1, 1, -1.193 (code 2, top two bits 0) and 0.7513 (code 10, top two bits 2).
+fn by_hand(seed: u64) -> [ByHand; 4] {
+    let queries = [ONE, 0xc040_0000, 0x1a58_0000, 0x9a08_0000];
+    let (flip, near) = match seed {
+        2 => (0, [[2, 1, 3, 0], [0, 1, 2, 3], [3, 2, 1, 0], [1, 0, 2, 3]]),
+        1 => (MINUS, [[0, 1, 2, 3], [2, 1, 3, 0], [0, 1, 2, 3], [2, 1, 3, 0]]),
+        _ => panic!("worked out for two seeds"),
+    };
+    std::array::from_fn(|i| ByHand { query: queries[i], sign: queries[i] & MINUS ^ flip, near: near[i] })
+}
+
+impl ByHand {
+    fn score(&self, code: usize) -> u32 {
+        CENTROIDS[code] ^ self.sign
+    }
+
+    /// The first k of these slots: centroids rise with their codes.
+    fn list(&self, mut slots: Vec<usize>, k: usize) -> String {
+        slots.sort_unstable();
+        if self.sign == 0 {
+            slots.reverse();
+        }
+        let hits: String = slots.iter().take(k.max(1)).map(|&slot| format!(" {slot:x}:{:08x}", self.score(slot))).collect();
+        format!("list{hits}")
+    }
+
+    fn cascade(&self, k: usize, r: usize) -> String {
+        let nearest = self.near.iter().flat_map(|top| 4 * top..4 * top + 4).take(r.max(k).max(1)).collect();
+        self.list(nearest, k)
+    }
+}
+
+/// Sixteen slots under five keys in turn, all scales 1; the cascade is enabled.
+fn sixteen_slots(f: &mut Fixed, making: &str, dim: usize) {
+    f.lend(16, 1);
+    f.asks(&[making, "bits 4"]);
+    for slot in 0..16 {
+        f.ask(format!("add_multi {:x} {}", slot % 5, with_trait(dim, ONE)));
+        f.ask(format!("set scales {slot:x} {ONE:x}"));
+    }
+    f.ask("enable");
+}
+
+/// Each slot gets its number as code, under these high four bits in turn.
+fn number_codes(f: &mut Fixed, high: [usize; 4]) {
+    f.label(&format!("slot s has code s, and in turn the high four bits {}", high.map(|bits| format!("{bits:x}")).join(", ")));
+    for slot in 0..16 {
+        f.ask(format!("set codes {slot:x} {:x}", 16 * high[slot % 4] + slot));
+    }
+}
+
+fn one_trait_codes(f: &mut Fixed) {
+    f.section("games with one trait (document 02, Req 05): every code, both signs of entry and rotation, high four bits set; by hand");
+    for (making, dim, seed) in [("new 1 2", 1, 2), ("working 3 1 1", 3, 1)] {
+        sixteen_slots(f, making, dim);
+        let queries = by_hand(seed);
+        for high in [[0; 4], [1; 4], [0xf; 4]] {
+            number_codes(f, high);
+            for query in &queries[..2] {
+                for slot in 0..16 {
+                    f.told(format!("score {slot:x} {}", with_trait(dim, query.query)), &format!("score {:08x}", query.score(slot)));
+                }
+            }
+        }
+        for high in [[0; 4], [0xf, 1, 8, 0]] {
+            number_codes(f, high);
+            queries.iter().for_each(|query| lists_by_hand(f, dim, query));
+        }
+        f.label("by key: the best slot of each");
+        let (rising, falling) = ("list 0:3fff8099 1:3fc19097 2:3f96168b 3:3f6337a8 4:3f21ec1c", "list 0:402e5a5c 4:40062321 3:3fce563f 2:3fa2dc33 1:3f7cc2f8");
+        for query in &queries {
+            f.told(format!("search_keyed 10 10 {}", with_trait(dim, query.query)), if query.sign == 0 { falling } else { rising });
+        }
+    }
+}
+
+fn lists_by_hand(f: &mut Fixed, dim: usize, query: &ByHand) {
+    let text = with_trait(dim, query.query);
+    for k in [0, 1, 5, 16, 17] {
+        f.told(format!("search {k:x} 10 {text}"), &query.list((0..16).collect(), k));
+    }
+    for (k, r) in [(0, 0), (1, 1), (3, 3), (1, 4), (4, 4), (2, 5), (5, 2), (8, 8), (3, 9), (9, 12), (1, 13), (15, 0), (16, 16), (17, 99)] {
+        f.told(format!("search_cascade {k:x} {r:x} 10 {text}"), &query.cascade(k, r));
+    }
+}
+
+/// Byte and scale of a slot's first stage, then those of its second.
+fn set_stages(f: &mut Fixed, slot: usize, stages: &[u32]) {
+    for (array, value) in ["codes", "scales", "codes2", "scales2"].into_iter().zip(stages) {
+        f.ask(format!("set {array} {slot:x} {value:x}"));
+    }
+}
+
+fn one_trait_residual(f: &mut Fixed) {
+    f.section("games with one trait: the two stages of a residual slot are added; by hand, then any bytes and scales");
+    let mut random = Random::new(105);
+    for (making, dim, sign) in [("residual 1 2", 1, 0), ("residual 1 1", 1, MINUS), ("working 2 1 2", 2, 0), ("working 11 1 1", 17, MINUS)] {
+        let query = with_trait(dim, ONE);
+        f.lend(6, 1);
+        f.asks(&[making, "bits 4", "field residual 1"]);
+        for key in [7, 8, 7, 9, 8, 7] {
+            f.ask(format!("add_multi {key} {query}"));
+        }
+        for (stages, score) in [
+            // 0.987350 less 0.887568, in units of 2^-24: 0xfcc2f8 less 0xe337a8 is 0x198b50.
+            ([0xb, ONE, 0x3, ONE], 0x3dcc_5a80),
+            ([0xfb, ONE, 0xf3, ONE], 0x3dcc_5a80),
+            ([0x13, ONE, 0x8b, ONE], 0x3dcc_5a80),
+            // Twice 2.724265, a half of it, and centroids beside a zero.
+            ([0x1f, ONE, 0xef, ONE], CENTROIDS[15] + (1 << 23)),
+            ([0xff, ONE, 0xff, 0xbf00_0000], CENTROIDS[15] - (1 << 23)),
+            ([0x3, ONE, 0xff, 0], CENTROIDS[3]),
+            ([0x3, 0, 0xff, ONE], CENTROIDS[15]),
+            ([0xf, ONE, 0xf, MINUS ^ ONE], 0),
+        ] {
+            set_stages(f, 0, &stages);
+            // Under an entry of -1 both stages change their signs, and so does the sum, but for that of x and -x, which is +0.
+            f.told(format!("score 0 {query}"), &format!("score {:08x}", if score == 0 { 0 } else { score ^ sign }));
+        }
+        f.ask("enable");
+        for entry in [ONE, 0xbf00_0000, 0x1a58_0000] {
+            f.label("any bytes and scales");
+            for slot in 0..6 {
+                let (byte, byte2) = (random.below(256) as u32, random.below(256) as u32);
+                set_stages(f, slot, &[byte, random.mixed(3, 3).to_bits(), byte2, random.mixed(3, 3).to_bits()]);
+            }
+            let query = with_trait(dim, entry);
+            for slot in 0..6 {
+                f.ask(format!("score {slot} {query}"));
+            }
+            for (k, r) in [(0, 0), (2, 3), (3, 0), (6, 1), (7, 9)] {
+                search_all(f, k, r, &query, true);
+            }
+        }
+        f.label("two slots less, then compacted: both stages move");
+        f.ask("remove 8");
+        search_all(f, 4, 2, &query, true);
+        f.told("compact", "ok");
+        f.asks(&["dump", "enable"]);
+        search_all(f, 4, 2, &query, true);
+    }
+}
+
+/// No centroid is 0, so a product is 0 by its scale: one that is 0, or so small that the product rounds to 0.
+fn one_trait_zeros(f: &mut Fixed) {
+    f.section("games with one trait: -0 stays -0 in scores and lists, and ranks as +0 by rising slot; by hand");
+    let (one, minus_one) = ("3f800000", "bf800000");
+    f.lend(8, 1);
+    f.asks(&["new 1 2", "bits 4"]);
+    // Of 2^-149, 0.049892 and 0.169891 parts round to 0, and 0.632509 parts to the whole.
+    let slots: [(u64, [u32; 2], u32); 8] = [
+        (7, [0xf, 0], 0),
+        (7, [0xff, MINUS], MINUS),
+        (8, [0x10, 0], MINUS),
+        (9, [0, MINUS], 0),
+        (7, [0x77, 1], 0),
+        (8, [7, MINUS + 1], MINUS),
+        (6, [0xf6, 1], MINUS),
+        (5, [4, 1], MINUS + 1),
+    ];
+    for (slot, (key, stage, _)) in slots.iter().enumerate() {
+        f.ask(format!("add_multi {key} {one}"));
+        set_stages(f, slot, stage);
+    }
+    f.ask("enable");
+    for (slot, (_, _, score)) in slots.iter().enumerate() {
+        f.told(format!("score {slot} {one}"), &format!("score {score:08x}"));
+        f.told(format!("score {slot} {minus_one}"), &format!("score {:08x}", score ^ MINUS));
+    }
+    f.label("slot 7 below the zeros");
+    let zeros = "list 0:00000000 1:80000000 2:80000000 3:00000000 4:00000000 5:80000000 6:80000000";
+    f.told(format!("search 8 8 {one}"), &format!("{zeros} 7:80000001"));
+    f.told(format!("search 7 8 {one}"), zeros);
+    f.told(format!("search 2 2 {one}"), "list 0:00000000 1:80000000");
+    f.told(format!("search_keyed 8 8 {one}"), "list 7:00000000 8:80000000 9:00000000 6:80000000 5:80000001");
+    f.told(format!("search_cascade 8 8 8 {one}"), &format!("{zeros} 7:80000001"));
+    f.label("the query's code is 11: codes 0 are at distance 2, all others at 1");
+    f.told(format!("search_cascade 3 3 8 {one}"), "list 0:00000000 1:80000000 4:00000000");
+    f.told(format!("search_cascade 2 6 8 {one}"), "list 0:00000000 1:80000000");
+    f.told(format!("search_cascade 7 7 8 {one}"), "list 0:00000000 1:80000000 2:80000000 4:00000000 5:80000000 6:80000000 7:80000001");
+    f.label("slot 7 above the zeros, of which it displaces the lowest-numbered");
+    f.told(format!("search 1 1 {minus_one}"), "list 7:00000001");
+    f.told(format!("search 2 2 {minus_one}"), "list 7:00000001 1:00000000");
+    f.told(format!("search 3 3 {minus_one}"), "list 7:00000001 1:00000000 2:00000000");
+    f.told(format!("search_keyed 3 3 {minus_one}"), "list 5:00000001 7:00000000 8:00000000");
+    f.label("the query's code is 3: codes 0 are at distance 0, codes 4 to 7 at 1, codes 15 at 3");
+    f.told(format!("search_cascade 2 2 8 {minus_one}"), "list 2:00000000 3:80000000");
+    f.told(format!("search_cascade 2 6 8 {minus_one}"), "list 7:00000001 3:80000000");
+    f.label("residual: -0 and -0 are -0, -0 and +0 are +0");
+    f.ask("residual 1 2");
+    let slots = [([0xf, MINUS, 0xf, MINUS], [MINUS, 0]), ([0xf, MINUS, 0xf, 0], [0, 0]), ([0, 0, 0xff, MINUS], [MINUS, 0]), ([0xf, 0, 0x1f, 0], [0, MINUS])];
+    for (slot, (stages, _)) in slots.iter().enumerate() {
+        f.ask(format!("add_multi 7 {one}"));
+        set_stages(f, slot, stages);
+    }
+    for (slot, (_, scores)) in slots.iter().enumerate() {
+        f.told(format!("score {slot} {one}"), &format!("score {:08x}", scores[0]));
+        f.told(format!("score {slot} {minus_one}"), &format!("score {:08x}", scores[1]));
+    }
+    f.told(format!("search 4 4 {one}"), "list 0:80000000 1:00000000 2:80000000 3:00000000");
+    f.told(format!("search 4 4 {minus_one}"), "list 0:00000000 1:00000000 2:00000000 3:80000000");
+    f.told(format!("search_keyed 4 4 {one}"), "list 7:80000000");
+}
+
+fn one_trait_scales(f: &mut Fixed) {
+    let (nan, inf, most) = (0x7fc0_0000, 0x7f80_0000, 0x7f7f_ffff);
+    f.section("games with one trait: scales that are infinite, a NaN (12), large or subnormal; by hand");
+    let one = "3f800000";
+    f.lend(3, 1);
+    f.asks(&["new 1 2", "bits 4", &format!("add_keyed 7 {one}"), &format!("add_keyed 8 {one}"), &format!("add {one}")]);
+    for (stage, score) in [
+        ([0xf, inf], inf),
+        ([0x10, inf], MINUS ^ inf),
+        ([0xff, MINUS ^ inf], MINUS ^ inf),
+        ([0xf, most], inf),
+        ([0, most], MINUS ^ inf),
+        // 0xcc5b8e, the significand of 0.049892, times 2^24 - 1 is 0.8 of 2^24 less than 0xcc5b8e times 2^24.
+        ([0xf7, most], 0x7d4c_5b8d),
+        // It has 28 binary places: times 2^-126 it is 0xcc5b8e / 32 units of 2^-149, which are 418,524.4.
+        ([7, 0x0080_0000], 418_524),
+    ] {
+        set_stages(f, 0, &stage);
+        f.told(format!("score 0 {one}"), &format!("score {score:08x}"));
+    }
+    f.label("12: slot 0 has a NaN, and code 3 at distance 2; a cascade's is over candidates only");
+    set_stages(f, 1, &[0xfb, ONE]);
+    set_stages(f, 2, &[0x1b, ONE]);
+    f.ask("enable");
+    for scale in [nan, 0xff80_0001] {
+        set_stages(f, 0, &[3, scale]);
+        for call in ["score 0", "search 1 1", "search_keyed 3 3", "search_cascade 3 0 3", "search_cascade 2 3 2"] {
+            f.told(format!("{call} {one}"), "refused 12");
+        }
+        f.told(format!("score 1 {one}"), "score 3f7cc2f8");
+        f.told(format!("search_cascade 1 2 1 {one}"), "list 1:3f7cc2f8");
+        f.told(format!("search_cascade 2 2 2 {one}"), "list 1:3f7cc2f8 2:3f7cc2f8");
+    }
+    f.ask("remove 7");
+    f.told(format!("search 3 3 {one}"), "list 1:3f7cc2f8 2:3f7cc2f8");
+    f.told(format!("score 0 {one}"), "refused 12");
+    f.label("12 of the sum: an infinity and its opposite, a product past the largest and its opposite; a NaN in either stage");
+    f.asks(&["residual 1 2", &format!("add {one}")]);
+    for stages in [[0xf, inf, 0, inf], [0xf, most, 0x10, most], [0xf, ONE, 0xf, nan], [0xf, nan, 0xf, ONE]] {
+        set_stages(f, 0, &stages);
+        f.told_all(&[&format!("score 0 {one}"), &format!("search 1 1 {one}")], "refused 12");
+    }
+    set_stages(f, 0, &[0xf, inf, 0, most]);
+    f.told(format!("score 0 {one}"), "refused 12");
+    set_stages(f, 0, &[0xf, inf, 0, ONE]);
+    f.told(format!("search 1 1 {one}"), "list 0:7f800000");
+}
+
+/// The answer to the line has this part.
+fn shows(f: &mut Fixed, line: &str, part: &str) {
+    let answer = f.either(line);
+    assert!(answer.contains(part), "{line}: {answer} lacks {part}");
+}
+
+/// What vectors of one trait store, and lists over it. The Rust stores them, and stops at the scores.
+fn one_trait_slots(f: &mut Fixed) {
+    f.section("games with one trait: slots as they were added, small and large entries, dead slots, overwriting, compaction, equal scores");
+    let entries: [f32; 7] = [1.0, -3.0, f32::from_bits(0x1a58_0000), f32::from_bits(0x9a08_0000), 1.8e19, -(2f32.powi(-74)), 0.1];
+    // Codes by the sign 1: of 1, -1, 1.193, -0.7513 (as in `by_hand`), 1, -1 and 1; then by the sign -1.
+    let (plus, minus) = ("0b030c040b030b", "030b020a030b03");
+    for (making, residual, codes) in [("new 1 2", 0, plus), ("working 11 1 1", 0, minus), ("residual 1 2", 1, plus), ("working 2 1 1", 1, minus)] {
+        f.lend(7, 1);
+        f.asks(&[making, "bits 4", &format!("field residual {residual}")]);
+        let dim = f.driver.record.dim;
+        let vectors = entries.map(|x| with_trait(dim, x.to_bits()));
+        for (slot, w) in vectors.iter().enumerate() {
+            f.ask(if slot == 4 { format!("add {w}") } else { format!("add_multi {} {w}", [7, 8, 7, 9, 0, 6, 8][slot]) });
+        }
+        shows(f, "dump", &format!(" codes {codes} "));
+        f.asks(&["remove 9", "enable"]);
+        for (turn, w) in vectors.iter().enumerate() {
+            for slot in 0..7 {
+                f.ask(format!("score {slot} {w}"));
+            }
+            for (k, r) in [(turn, 6 - turn), (7, turn)] {
+                search_all(f, k, r, w, true);
+            }
+        }
+        f.label("key 7's first slot overwritten by its opposite; then compacted, and one more");
+        f.ask(format!("add_keyed 7 {}", vectors[1]));
+        f.ask("enable");
+        search_all(f, 4, 4, &vectors[0], true);
+        f.either("compact");
+        f.ask(format!("add_keyed 5 {}", vectors[3]));
+        f.asks(&["dump", "enable"]);
+        search_all(f, 4, 4, &vectors[0], true);
+        search_all(f, 7, 2, &vectors[1], true);
+        f.either("write 100");
+    }
+    f.label("equal scores: slots 0, 1, 2 and 4 have one, slot 3 a higher one");
+    f.lend(5, 1);
+    f.asks(&["new 1 2", "bits 4"]);
+    for (slot, byte) in [0xb, 0xfb, 0x1b, 0xf, 0x8b].into_iter().enumerate() {
+        f.ask(format!("add_keyed {slot} 3f800000"));
+        set_stages(f, slot, &[byte, ONE]);
+    }
+    f.ask("enable");
+    let equal = |slots: &[usize], score: &str| slots.iter().map(|slot| format!(" {slot}:{score}")).collect::<String>();
+    // The first k stay; where slot 3 comes later than these, it displaces slot 0.
+    for (k, others) in [(1, &[][..]), (2, &[1]), (3, &[1, 2]), (4, &[0, 1, 2]), (5, &[0, 1, 2, 4])] {
+        for search in [format!("search {k} 5"), format!("search_keyed {k} 5"), format!("search_cascade {k} 5 5")] {
+            f.told(format!("{search} 3f800000"), &format!("list 3:402e5a5c{}", equal(others, "3f7cc2f8")));
+        }
+    }
+    f.told("search 3 5 bf800000", &format!("list{}", equal(&[0, 1, 2], "bf7cc2f8")));
+    f.told("search 5 5 bf800000", &format!("list{} 3:c02e5a5c", equal(&[0, 1, 2, 4], "bf7cc2f8")));
+}
+
+/// A file of six slots with one trait whose code bytes are these, in the second stage as well.
+fn one_trait_file(version: u16, dim: u32, working: u16, bytes: [u8; 6], bytes2: [u8; 6]) -> Vec<u8> {
+    let stated = File { working, ..File::new(version, dim, 4, 6, &[(0, 7), (1, 8), (2, 7), (4, 9)]) };
+    let mut file = stated.bytes();
+    let codes = if version == 261 { 25 } else { 24 } + 6 * if version == 1 { 4 } else { 2 };
+    file[codes..codes + 6].copy_from_slice(&bytes);
+    if version == 260 {
+        file[codes + 18..codes + 24].copy_from_slice(&bytes2);
+    }
+    file
+}
+
+/// Every slot scored, and lists, by a query at distance 0 of slots that another isn't near to.
+fn one_trait_questions(f: &mut Fixed) -> Vec<String> {
+    let dim = f.driver.record.dim;
+    let mut answers = Vec::new();
+    for query in [ONE, 0x9a08_0000].map(|entry| with_trait(dim, entry)) {
+        let mut lines: Vec<String> = (0..f.driver.record.n).map(|slot| format!("score {slot} {query}")).collect();
+        for (k, r) in [(6, 6), (2, 3)] {
+            lines.extend(search_lines(f, k, r, &query, true));
+        }
+        answers.extend(lines.into_iter().map(|line| f.either(line)));
+    }
+    answers
+}
+
+/// "The high four bits count for nothing"; 01: "Spare bits are 0 after an append; an overwrite keeps them."
+fn one_trait_files(f: &mut Fixed) {
+    f.section("games with one trait: files whose high four bits are set, scored, searched, overwritten, compacted, written");
+    let (bytes, bytes2) = ([0xf3, 0x1b, 0xe4, 0x0c, 0x97, 0x80], [0x34, 0xf3, 0x0f, 0xc8, 0x21, 0xd6]);
+    for (version, dim, working) in [(1, 1, 0), (257, 1, 0), (258, 3, 1), (259, 1, 0), (259, 2, 1), (260, 1, 0), (260, 17, 1), (261, 17, 1)] {
+        f.label(&format!("version {version}, dim {dim}, working_dim field {working}: the high four bits clear, then set, and the same answers"));
+        f.lend(7, 1);
+        let low = |bytes: [u8; 6]| bytes.map(|byte| byte & 0xf);
+        assert_eq!(read(f, &one_trait_file(version, dim, working, low(bytes), low(bytes2))), "ok");
+        f.ask("enable");
+        let clear = one_trait_questions(f);
+        assert_eq!(read(f, &one_trait_file(version, dim, working, bytes, bytes2)), "ok");
+        f.ask("enable");
+        assert_eq!(one_trait_questions(f), clear, "the high four bits count");
+        if version < 259 {
+            // Without keys nothing is overwritten.
+            continue;
+        }
+        f.label("slots 0 and 4 overwritten: by the file's seed the sign is -1, so -1 has code 11, and 1 has 3");
+        f.ask(format!("add_keyed 7 {}", with_trait(dim as usize, MINUS ^ ONE)));
+        f.ask(format!("add_keyed 9 {}", with_trait(dim as usize, ONE)));
+        shows(f, "dump", " codes fb1be40c938000 ");
+        if version == 260 {
+            shows(f, "dump", " codes2 3bf30fc823d600 ");
+        }
+        shows(f, "write 100", "fb1be40c9380");
+        f.ask("enable");
+        one_trait_questions(f);
+        f.label("slot 1 removed, compacted, written and read again, then one more, whose high four bits are 0");
+        f.ask("remove 8");
+        f.either("compact");
+        f.ask("enable");
+        one_trait_questions(f);
+        let file = f.either("write 100");
+        f.either(format!("read {}", file.strip_prefix("bytes ").expect("a file")));
+        shows(f, "dump", " codes fbe40c93808000 ");
+        f.ask(format!("add {}", with_trait(dim as usize, ONE)));
+        shows(f, "dump", " codes fbe40c93800300 ");
+    }
+}
+
+fn one_trait_refusals(f: &mut Fixed) {
+    f.section("games with one trait: what is refused, and in which order");
+    let one = "3f800000";
+    let searches = |rest: &str| [format!("search 1 1 {rest}"), format!("search_keyed 1 1 {rest}"), format!("search_cascade 1 1 1 {rest}")];
+    let faults = [("-", 1), ("3f8000003f800000", 1), ("00000000", 2), ("80000000", 2), ("7fc00000", 2), ("1a000000", 2), ("7149f2ca", 3), ("7f800000", 3)];
+    for making in ["new 1 1", "residual 1 1"] {
+        f.lend(2, 1);
+        f.asks(&[making, "bits 4"]);
+        f.label("no slot is in use: 9, and empty lists; 11 before all but 13");
+        f.told(format!("score 0 {one}"), "refused 9");
+        f.told_all(&[&format!("search_cascade 1 1 1 {one}"), "search_cascade 1 1 0 -"], "refused 11");
+        f.ask("enable");
+        search_all(f, 3, 3, one, true);
+        f.asks(&["add_keyed 7 40400000", "add_keyed 8 c0400000"]);
+        f.told("search_cascade 1 1 1 -", "refused 11");
+        f.ask("enable");
+        f.label("1, 2, 3; before them 13 of the places; after them 9");
+        for (query, number) in faults {
+            let answer = format!("refused {number}");
+            for line in searches(query) {
+                f.told(line, &answer);
+            }
+            f.told_all(&[&format!("score 0 {query}"), &format!("score 2 {query}")], &answer);
+            f.told(format!("search 2 1 {query}"), "refused 13");
+        }
+        f.told_all(&[&format!("score 2 {one}"), &format!("score ffffffffffffffff {one}")], "refused 9");
+        f.label("12 after all of these");
+        f.asks(&["set scales 0 7fc00000", "set scales 1 7fc00000"]);
+        for line in searches(one) {
+            f.told(line, "refused 12");
+        }
+        f.told(format!("score 0 {one}"), "refused 12");
+        f.told(format!("score 2 {one}"), "refused 9");
+        f.told_all(&["search 1 1 00000000", "search_cascade 1 1 1 00000000", "score 0 00000000"], "refused 2");
+        f.told_all(&[&format!("search 2 1 {one}"), &format!("search_keyed 2 1 {one}"), &format!("search_cascade 2 2 1 {one}")], "refused 13");
+        f.label("no slot is live: empty lists, but a dead slot is scored");
+        f.asks(&["set scales 0 3f9036dd", "set scales2 0 0", "remove 7", "remove 8"]);
+        search_all(f, 2, 2, one, true);
+        // 3 has code 3 by the sign -1: 0.887568 times 1.1266743, the inverse's nearest, is 1. In the residual's second stage the product is +0.
+        f.told(format!("score 0 {one}"), "score 3f800000");
+        f.told(format!("score 1 {one}"), "refused 12");
+        f.label("13 before all");
+        f.ask("field live 1");
+        for line in searches("-") {
+            f.told(line, "refused 13");
+        }
+        f.told("score 2 -", "refused 13");
+    }
 }
 
 // ---- files
@@ -1502,7 +1956,7 @@ fn some_call(f: &Fixed, twin: &Twin, random: &mut Random) -> Call {
 
 fn twins(f: &mut Fixed) {
     f.section("twins: a history without compactions, and twice the same list with some; answers equal by arrival");
-    for (number, making) in ["new 5 3", "working 9 6 4", "residual 3 5", "new 2 0"].iter().enumerate() {
+    for (number, making) in ["new 5 3", "working 9 6 4", "residual 3 5", "new 2 0", "residual 1 2"].iter().enumerate() {
         let mut random = Random::new(90 + number as u64);
         let start = |f: &mut Fixed| {
             f.lend(32, 8);

@@ -9,6 +9,7 @@ mod language;
 mod leaves;
 mod list;
 mod model;
+mod one_trait;
 mod random;
 mod scripts;
 mod text;

@@ -2,6 +2,7 @@
 use crate::driver::Driver;
 use crate::language::{bytes as read_bytes, Array, Field, ARRAYS, FIELDS};
 use crate::model::{block_size, fits};
+use crate::one_trait;
 use crate::random::Random;
 use crate::text::{bytes, vector};
 use std::io::Write;
@@ -51,7 +52,8 @@ pub fn write_large(mut out: impl Write, seed: u64, count: usize) {
             break;
         }
         let (making, width) = [("new", 4), ("new", 5), ("new", 6), ("residual", 4)][number % 4];
-        let dim = [2, 3, 8, 17, 33, 64][random.below(6) as usize];
+        // Two of eight are games with one trait at 4 bits.
+        let dim = if matches!(number % 8, 4 | 7) { 1 } else { [2, 3, 8, 17, 33, 64][random.below(6) as usize] };
         let bytes = 4096 * block_size(dim, 6);
         let mut line = |line: String| writeln!(out, "{line}").expect("the script is written");
         line(format!("lend {bytes:x} 1000 1000 1000 1000 1000 {bytes:x} 1000"));
@@ -67,6 +69,13 @@ pub fn write_large(mut out: impl Write, seed: u64, count: usize) {
         for _ in 0..4096 {
             let v = entries(&mut random);
             line(if random.below(5) == 0 { format!("add {v}") } else { format!("add_multi {:x} {v}", random.below(keys)) });
+        }
+        if one_trait::is_meant(dim, width) {
+            // Vectors of one trait have few codes, and no high four bits.
+            for slot in 0..4096 {
+                line(format!("set codes {slot:x} {:x}", random.below(256)));
+                line(format!("set codes2 {slot:x} {:x}", random.below(256)));
+            }
         }
         if keys > 1 {
             (0..20).for_each(|_| line(format!("remove {:x}", random.below(keys.min(3000)))));
@@ -141,11 +150,19 @@ impl<W: Write> Script<W> {
         if self.rarely(2) { self.random.below(4) } else { self.random.word() }
     }
 
+    /// Dim, working_dim, width and whether it is residual; now and then of a game with one trait at 4 bits.
+    fn shape(&mut self) -> (usize, usize, u8, bool) {
+        let (dim, residual) = (self.dim(), self.rarely(4));
+        if self.rarely(25) {
+            return (if residual { 1 } else { dim }, 1, 4, residual);
+        }
+        let working = if !residual && self.rarely(3) { 1 + self.below(dim) } else { dim };
+        (dim, working, if residual { 4 } else { self.pick(&[4, 5, 6]) }, residual)
+    }
+
     /// Arrays for some slots, a making, mostly a width.
     fn start(&mut self) {
-        let (dim, residual) = (self.dim(), self.rarely(4));
-        let working = if !residual && self.rarely(3) { 1 + self.below(dim) } else { dim };
-        let width = if residual { 4 } else { self.pick(&[4, 5, 6]) };
+        let (dim, working, width, residual) = self.shape();
         self.lend(block_size(working, width.max(5)));
         let seed = self.seed();
         if self.rarely(12) {
@@ -283,6 +300,7 @@ impl<W: Write> Script<W> {
             3 if self.rarely(3) => {
                 self.line(String::new());
             }
+            4 | 5 if self.is_one_trait() => self.poke_codes(),
             _ if self.full() && self.rarely(5) => {
                 let line = format!("remove {:x}", self.key());
                 self.call(line);
@@ -290,6 +308,10 @@ impl<W: Write> Script<W> {
             }
             _ => self.plain(),
         }
+    }
+
+    fn is_one_trait(&self) -> bool {
+        one_trait::is_meant(self.driver.record.working_dim, self.driver.record.bits)
     }
 
     fn full(&self) -> bool {
@@ -423,6 +445,20 @@ impl<W: Write> Script<W> {
         }
     }
 
+    /// Any code bytes of slots with one trait, whose vectors have few codes.
+    fn poke_codes(&mut self) {
+        for slot in 0..self.driver.record.n.min(self.driver.arrays.codes.len()) {
+            let byte = self.below(256);
+            self.line(format!("set codes {slot:x} {byte:x}"));
+            if self.driver.record.residual && slot < self.driver.arrays.codes2.len() {
+                self.line(format!("set codes2 {slot:x} {:x}", byte ^ 0x55));
+            }
+        }
+        for _ in 0..4 {
+            self.plain();
+        }
+    }
+
     /// Keys, marks and the record: mostly 13, until all is put back or made anew.
     fn poke(&mut self) {
         if self.rarely(3) {
@@ -522,7 +558,11 @@ impl<W: Write> Script<W> {
     fn made_up(&mut self) -> Vec<u8> {
         let version = self.pick(&[1u16, 257, 258, 259, 259, 260, 260, 261, 261]);
         let dim = self.dim();
-        let working = if self.rarely(3) { 1 + self.below(dim) } else { 0 };
+        let working = match self.below(12) {
+            0 => 1,
+            1..=4 => 1 + self.below(dim),
+            _ => 0,
+        };
         let width = if version == 261 { self.pick(&[4, 5, 6]) } else { 4 };
         let in_codes = if matches!(version, 1 | 257) || working == 0 { dim } else { working };
         let block = block_size(in_codes, width);

@@ -1,12 +1,11 @@
 -- What a search answers: its tests in their order, and the list of hits in the lent places.
 use mathlib.Core.Path.{_≡_, refl, sym, ap, subst, _∙_}
-use mathlib.Core.Bool.{Bool, true, false, _&&_}
+use mathlib.Core.Bool.{Bool, true, false}
 use mathlib.Core.Logic.{inl, inr}
 use mathlib.Core.List.{List, [], _∷_, _++_, map, append-nil}
 use Prim.Native.Nat.{ℕ, zero, suc, _≤_}
 use native.Mathlib.Omega.{arith}
-use lib.ListN.{length, length-map}
-use lib.Dec.{ltb}
+use lib.ListN.{length}
 use lib.Ieee.{Float, isNan}
 use types.Run.{OneOf}
 use denote.Enum.Declared.{tagOf}
@@ -19,16 +18,14 @@ use Rattle.index.specs.declared.Found.{Found}
 use Rattle.index.specs.declared.Found.the-variants as Found
 use Rattle.index.specs.Arrays.{Arrays}
 use Rattle.index.specs.State.{headerOf}
-use Rattle.index.specs.Codec.{tiny}
 use Rattle.index.specs.Fit.{fit}
-use Rattle.index.specs.Step.{Query, Op, Answer, hits, firstOf, when, unless, hitOf, hitsOf, queryRefusal}
+use Rattle.index.specs.Step.{Query, Op, Answer, hits, firstOf, when, unless, hitsOf, queryRefusal}
 use Rattle.lists.specs.Keep.{any}
 use Rattle.index.specs.Call.{call}
 use Rattle.index.specs.Answers.{result, hitCount, found, LaterKept}
 use Rattle.index.proofs.Lent.{pairs-there}
 use Rattle.fit.proofs.Meaning.{meaning}
 use Rattle.fit.proofs.Rooms.{enough}
-use Rattle.score_slot.specs.Query.{queryFault}
 use Rattle.score_slot.proofs.Query.{width-in, query-rotatable}
 use Rattle.hits.specs.declared.Listed.{Listed}
 use Rattle.hits.specs.declared.Listed.the-variants as Listed
@@ -59,22 +56,19 @@ first-last (suc m ∷ ms) ns = refl
 -- a query's refusals: those before any score, then 12 over the marked slots
 pub query-refusal : (h : Header) (a : Arrays) (q : Query) (marks : List ℕ) (n : ℕ) →
     queryRefusal h q (hitsOf h q (cells h a marks n)) ≡
-    firstOf (queryFault h (ltb 0 (length (cells h a marks n))) q ∷ when (any (λ e. isNan (e .1)) (scoredSlots (scores h a q) marks n)) 12 ∷ [])
-unfolding queryRefusal queryFault
-query-refusal h a q marks n =
-    let cs = cells h a marks n in
-    (λ j. firstOf (fault h (q .vector) ∷ when (tiny h && ltb 0 (length-map cs (hitOf h q) j)) 10 ∷ when (hits-nan h a q marks n j) 12 ∷ []))
-    ∙ sym (first-nested (fault h (q .vector) ∷ when (tiny h && ltb 0 (length cs)) 10 ∷ []) (when (any (λ e. isNan (e .1)) (scoredSlots (scores h a q) marks n)) 12 ∷ []))
+    firstOf (fault h (q .vector) ∷ when (any (λ e. isNan (e .1)) (scoredSlots (scores h a q) marks n)) 12 ∷ [])
+unfolding queryRefusal
+query-refusal h a q marks n = λ j. firstOf (fault h (q .vector) ∷ when (hits-nan h a q marks n j) 12 ∷ [])
 
 -- ---- the list of hits can be made
 
-pub is-ready : (x : Index) (a : Arrays) → fit x a ≡ true → (any : Bool) (q : Query) → queryFault (headerOf x) any q ≡ 0 →
+pub is-ready : (x : Index) (a : Arrays) → fit x a ≡ true → (q : Query) → fault (headerOf x) (q .vector) ≡ 0 →
     ready (x .n) (x .bits) (x .«working_dim») (length (q .vector)) ≡ true
 unfolding ready
-is-ready x a e any q f =
+is-ready x a e q f =
     let w = width-in x a e in
     rw (le-leb (x .n) 65536 (enough (headerOf x) a (x .n) (meaning x a .yes e .room) .few), le-leb 4 (x .bits) (w .0), le-leb (x .bits) 6 (w .1))
-    (query-rotatable x a e any q f)
+    (query-rotatable x a e q f)
 
 -- ---- and is what the call leaves
 

@@ -3,14 +3,13 @@ use mathlib.Core.Path.{_≡_, refl, ap, _∙_}
 use mathlib.Core.Bool.{true, false}
 use mathlib.Core.List.{[], _∷_}
 use Prim.Native.Nat.{ℕ, zero, suc, _≤_, _<_, min, max}
-use lib.Dec.{ltb}
 use borrow.Author.Tests.{lt-ltb, le-ltb}
+use Rattle.encode.specs.Coded.{fault}
 use Rattle.index.specs.declared.Index.{Index}
 use Rattle.index.specs.Arrays.{Arrays}
 use Rattle.index.specs.State.{headerOf}
 use Rattle.index.specs.Fit.{fit}
 use Rattle.index.specs.Step.{Query, firstOf}
-use Rattle.score_slot.specs.Query.{queryFault}
 use Rattle.asking.specs.Faults.{placesFault, searchFault}
 
 module _ (x : Index) (a : Arrays) (k places : ℕ) where
@@ -30,13 +29,13 @@ module _ (x : Index) (a : Arrays) (k places : ℕ) where
   module _ (q : Query) (n : ℕ) where
     pub search-places : n ≡ placesFault x a k places → (n ≡ 0 → ⊥) → n ≡ searchFault x a q k places
     unfolding searchFault firstOf
-    search-places e some = go n some ∙ ap (λ (m : ℕ). firstOf (m ∷ queryFault (headerOf x) (ltb 0 (x .live)) q ∷ [])) e
+    search-places e some = go n some ∙ ap (λ (m : ℕ). firstOf (m ∷ fault (headerOf x) (q .vector) ∷ [])) e
       where
-        go : (m : ℕ) → (m ≡ 0 → ⊥) → m ≡ firstOf (m ∷ queryFault (headerOf x) (ltb 0 (x .live)) q ∷ [])
+        go : (m : ℕ) → (m ≡ 0 → ⊥) → m ≡ firstOf (m ∷ fault (headerOf x) (q .vector) ∷ [])
         go zero s = absurd (s refl)
         go (suc m) s = refl
 
-    pub search-query : 0 ≡ placesFault x a k places → n ≡ queryFault (headerOf x) (ltb 0 (x .live)) q → n ≡ searchFault x a q k places
+    pub search-query : 0 ≡ placesFault x a k places → n ≡ fault (headerOf x) (q .vector) → n ≡ searchFault x a q k places
     unfolding searchFault firstOf
     search-query e f = go n ∙ (λ j. firstOf (e j ∷ f j ∷ []))
       where

@@ -13,6 +13,7 @@ use Rattle.lists.proofs.Laws.{length-tab}
 use Rattle.lists.proofs.Keep.{length-keep, count-length}
 use Rattle.choose.proofs.Choice.{choose-length}
 use Rattle.score.specs.Order.{orderNumber}
+use Rattle.encode.specs.Coded.{fault}
 use Rattle.index.specs.declared.Index.{Index}
 use Rattle.index.specs.Arrays.{Arrays}
 use Rattle.index.specs.State.{headerOf, slotAt, stateOf}
@@ -25,7 +26,6 @@ use Rattle.fit.proofs.Meaning.{meaning}
 use Rattle.fit.proofs.Rooms.{enough}
 use Rattle.lists.specs.Lists.{below}
 use Rattle.held.proofs.Live.{cellAt}
-use Rattle.score_slot.specs.Query.{queryFault}
 use Rattle.scan.specs.Scan.{takesPart}
 use Rattle.hits.specs.Hits.{scoredSlots, chosen}
 use Rattle.asking.specs.Faults.{placesFault, searchFault}
@@ -55,7 +55,7 @@ module _ (x : Index) (a : Arrays) (q : Query) (k places : ℕ) where
   numbers = keep (takesPart (a .alive)) (below (x .n))
 
   abbrev queryNumber : ℕ
-  queryNumber = queryFault (headerOf x) (ltb 0 (x .live)) q
+  queryNumber = fault (headerOf x) (q .vector)
 
   module _ (e : fit x a ≡ true) where
     many : length (cells (headerOf x) a (a .alive) (x .n)) ≡ x .live
@@ -83,7 +83,6 @@ module _ (x : Index) (a : Arrays) (q : Query) (k places : ℕ) where
         let w = when (liveNan x a q) 12 in
         ap (λ (cs : List Cell). searched h cs q k places show) (live-cells x a)
         ∙ (λ j. unless (firstOf (shortResult k (many j) places ∷ query-refusal h a q (a .alive) (x .n) j ∷ [])) (show (hits-chosen h a q (a .alive) (x .n) k j)))
-        ∙ (λ j. shownBy x a q k show (firstOf (shortResult k (x .live) places ∷ firstOf (queryFault h (ltb 0 (many j)) q ∷ w ∷ []) ∷ [])))
         ∙ ap (shownBy x a q k show) (tests w)
 
     -- as many hits as the result needs places
@@ -109,7 +108,7 @@ module _ (x : Index) (a : Arrays) (q : Query) (k places : ℕ) where
     pub searched-fits : fit x a ≡ true
     searched-fits = passed .0
 
-    pub searched-query : queryFault (headerOf x) (ltb 0 (x .live)) q ≡ 0
+    pub searched-query : fault (headerOf x) (q .vector) ≡ 0
     searched-query = passed .2
 
     -- the hits have their places, in the result and in an array for all slots

@@ -64,7 +64,7 @@ pub fn places_fault(
     0
 }
 
-// The refusal of a full search before any score: 13 of the index, 13 of the places, 1, 2, 3, and 10 where a slot is live; 0 for none.
+// The refusal of a full search before any score: 13 of the index, 13 of the places, 1, 2, 3; 0 for none.
 pub fn search_fault(
     index: Index,
     codes: &[u8],
@@ -101,5 +101,5 @@ pub fn search_fault(
     if fault != 0 {
         return fault;
     }
-    score_slot::query_fault(index, 0 < index.live, query)
+    vectors::vector_fault(index.dim, index.working_dim, query)
 }

@@ -3,10 +3,9 @@ use mathlib.Core.Path.{_≡_, refl, sym, ap, _∙_}
 use mathlib.Core.Bool.{Bool, true, false, cond}
 use mathlib.Core.List.{List, [], _∷_, map, map-map}
 use mathlib.Core.Option.{Option, none, some}
-use Prim.Native.Nat.{ℕ, zero, suc, _≤_, _<_}
+use Prim.Native.Nat.{ℕ, suc, _<_}
 use native.Mathlib.Nat.{zero-add}
-use native.Mathlib.Omega.{arith}
-use lib.ListN.{length, getD, getElem?}
+use lib.ListN.{length, getD}
 use Rattle.lists.specs.Lists.{tab, below}
 use Rattle.lists.specs.Keep.{keep, count, numbered}
 use Rattle.lists.proofs.Laws.{length-tab, getD-tab}
@@ -14,26 +13,6 @@ use Rattle.lists.proofs.Keep.{keep-map, keep-keep, count-map, count-keep-implie
 use Rattle.lists.proofs.Front.{map-tab, tab-is}
 use Rattle.index.specs.State.{Slot, live}
 use Rattle.index.specs.Step.{Cell, liveFrom, numberWhere}
-
--- ---- one slot by its number
-
-module _ {X : Type 0} where
-  elem-in : (xs : List X) (i : ℕ) (d : X) → i < length xs → getElem? xs i ≡ some (getD xs i d)
-  elem-in [] i d l = absurd (omega arith)
-  elem-in (x ∷ xs) zero d l = refl
-  elem-in (x ∷ xs) (suc i) d l = elem-in xs i d (omega arith)
-
-  elem-past : (xs : List X) (i : ℕ) → length xs ≤ i → getElem? xs i ≡ none
-  elem-past [] i l = refl
-  elem-past (x ∷ xs) zero l = absurd (omega arith)
-  elem-past (x ∷ xs) (suc i) l = elem-past xs i (omega arith)
-
-  module _ (f : ℕ → X) (n i : ℕ) where
-    pub tab-in : i < n → getElem? (tab f n) i ≡ some (f i)
-    tab-in l = elem-in (tab f n) i (f i) (rw (length-tab f n) l) ∙ ap some (getD-tab f n i (f i) l)
-
-    pub tab-past : n ≤ i → getElem? (tab f n) i ≡ none
-    tab-past l = elem-past (tab f n) i (rw (length-tab f n) l)
 
 -- ---- the live slots
 

@@ -11,6 +11,7 @@ use lib.Dec.{ltb, eqb}
 use borrow.Author.Tests.{eqb-true, lt-ltb}
 use Rattle.lists.specs.Lists.{tab, below}
 use Rattle.lists.specs.Keep.{bit, keep, count, Each}
+use Rattle.lists.proofs.Entries.{tab-in, tab-past}
 use Rattle.lists.proofs.Keep.{length-keep, count-map, count-same, each-keep, each-kept, keep-same}
 use Rattle.lists.proofs.Front.{map-tab, each-tab, tab-each}
 use Rattle.index.specs.declared.Index.{Index}
@@ -23,7 +24,7 @@ use Rattle.index.proofs.Fits.{fitting, fit-sound}
 use Rattle.positions.proofs.Slots.{count-at, once-count}
 use Rattle.slot_keys.specs.Has.{keyAt, slotHas}
 use Rattle.held.specs.Held.{heldCount, slotHolds, heldSlot}
-use Rattle.held.proofs.Live.{tab-in, tab-past, firstIn, live-count, live-first}
+use Rattle.held.proofs.Live.{firstIn, live-count, live-first}
 
 -- ---- tests
 

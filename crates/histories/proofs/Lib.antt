@@ -10,6 +10,7 @@ pub mod Runs
 pub mod Starts
 pub mod Keys
 pub mod Adds
+pub mod Traits
 pub mod Searches
 pub mod Scores
 pub mod Files

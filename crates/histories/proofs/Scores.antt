@@ -16,7 +16,7 @@ use Rattle.choose.proofs.Choice.{choose-each}
 use Rattle.encode.specs.declared.Header.{Header}
 use Rattle.encode.specs.Coded.{fault}
 use Rattle.index.specs.State.{Slot}
-use Rattle.index.specs.Codec.{scoreOf, tiny}
+use Rattle.index.specs.Codec.{scoreOf}
 use Rattle.index.specs.Step.{Query, Answer, refused, scoreIs, hits, keyHits, firstOf, when, unless, keyOfMark, Hit, rank, hitOf, hitsOf, bySlot, byKey, queryRefusal, shortResult, searched, scoreAnswer}
 use Rattle.index.specs.History.{score, search, searchKeyed}
 use Rattle.index.proofs.Passed.{unless-hits}
@@ -49,7 +49,7 @@ module _ (r : Run) (g : Good r) where
     unfolding scoreAnswer
     scored-code s e =
         let x : Float = scoreOf head q (s .code) in
-        passed (firstOf (fault head (q .vector) ∷ when (tiny head) 10 ∷ when (isNan x) 12 ∷ [])) (scoreIs x) e
+        passed (firstOf (fault head (q .vector) ∷ when (isNan x) 12 ∷ [])) (scoreIs x) e
 
     score-told : (l : LiveArrival) → lives living (l .arrival) ≡ true → Named (cellsIn (r .told)) l → accepts (moment r (score (l .arrival) q)) ≡ true →
         answer (moment r (score (l .arrival) q)) ≡ some (scoreIs (scoreOf head q (l .code)))

@@ -12,7 +12,7 @@ use borrow.Author.Tests.{eqb-true, eq-eqb, ne-eqb}
 use Rattle.lists.specs.Keep.{bit, Each}
 use Rattle.lists.proofs.Keep.{each-mem, each-weaken, count-none}
 use Rattle.lists.proofs.Front.{each-map, map-each}
-use Rattle.lists.proofs.Members.{each-of, mem-length}
+use Rattle.lists.proofs.Members.{each-of}
 use Rattle.choose.specs.Choose.{choose}
 use Rattle.choose.specs.Falling.{RisesBy}
 use Rattle.choose.proofs.Choice.{choose-length, choose-each, choose-count, choose-falls, choose-others, choose-map}
@@ -22,7 +22,7 @@ use Rattle.score.proofs.Order.{same-number}
 use Rattle.encode.specs.declared.Header.{Header}
 use Rattle.index.specs.State.{Slot, newSlot}
 use Rattle.index.specs.Codec.{scoreOf}
-use Rattle.index.specs.Step.{Query, scoreIs, hits, firstOf, unless, Hit, rank, hitOf, hitsOf, bySlot, queryRefusal, shortResult, searched, scoreAnswer}
+use Rattle.index.specs.Step.{Query, scoreIs, hits, firstOf, unless, Hit, rank, hitsOf, bySlot, queryRefusal, shortResult, searched, scoreAnswer}
 use Rattle.index.specs.History.{HistoryOp, score, search}
 use Rattle.index.proofs.Kept.{first-none}
 use Rattle.index.proofs.Passed as Passed
@@ -31,12 +31,13 @@ use Rattle.index.proofs.Ties.{scores-fit}
 use Rattle.histories.specs.Histories.{LiveArrival, ids, lives, accepted, Run, accepts, answer, scores, orderOf, times, ListsBest, SearchesSound, begin}
 use Rattle.histories.proofs.Reading.{unless-accepted}
 use Rattle.histories.proofs.Arrivals.{Sorted}
-use Rattle.histories.proofs.Held.{seenAfter, cellsOf, cells-length}
+use Rattle.histories.proofs.Held.{seenAfter, cellsOf}
 use Rattle.histories.proofs.Tracks.{none-seen, ids-sorted}
 use Rattle.histories.proofs.Machine.{cellsIn, answerOf}
 use Rattle.histories.proofs.Runs.{Good, full, each-moment, answer-machine, accepts-machine}
 use Rattle.histories.proofs.Starts.{start-good}
 use Rattle.histories.proofs.Keys.{Named, find-own, all-live}
+use Rattle.histories.proofs.Traits.{told-by-trait}
 
 -- ---- the scores of the live arrivals
 
@@ -117,10 +118,9 @@ module _ (r : Run) (g : Good r) (q : Query) (k places : ℕ) where
     unfolding answerOf
     scored l m =
         let own = each-of (Named (cellsIn (r .told))) m (find-own none-seen (r .told .living) (ids-sorted (g .tracks))) in
-        let some-found : 0 < length found = omega (arith, mem-length m, cells-length none-seen (r .told .living), length-map (cellsIn (r .told)) (hitOf head q)) in
         answer-machine r g (score (l .arrival) q) (each-of (λ (x : LiveArrival). lives (r .told .living) (x .arrival) ≡ true) m (all-live (r .told .living))) ∙
         ap (λ (o : Option Slot). some (scoreAnswer head q o)) (own .1) ∙
-        ap some (scored-as head q found query-passed some-found (newSlot (own .0) (l .code))
+        ap some (scored-as head q found query-passed (newSlot (own .0) (l .code))
         (each-of (λ (x : LiveArrival). isNan (scoreOf head q (x .code)) ≡ false) m (map-each (λ x. isNan (x .1) ≡ false)
         (λ (x : LiveArrival). (x .arrival, scoreOf head q (x .code))) (r .told .living) no-nan)))
 
@@ -132,6 +132,7 @@ module _ (r : Run) (g : Good r) (q : Query) (k places : ℕ) where
           exactly = choose-length orderOf k (scores r q) ∙ ap (min (max k 1)) (length-map (r .told .living) _);
           distinct = λ a. omega (arith, choose-count orderOf k (scores r q) (λ x. eqb (x .0) a), times-once a (scores r q) (rw scores-ids (ids-sorted (g .tracks))));
           areLive = choose-each orderOf k (scores r q) (λ x. List·Memᴰ x (scores r q)) (each-mem (λ x. List·Memᴰ x (scores r q)) (scores r q) (λ x m. m));
+          traits = λ one. told-by-trait r g one q;
           asScored =
               choose-each orderOf k (scores r q) (λ x. answer (record { before = r; op = score (x .0) q }) ≡ some (scoreIs (x .1)))
               (each-map (λ x. answer (record { before = r; op = score (x .0) q }) ≡ some (scoreIs (x .1))) (λ l. (l .arrival, scoreOf head q (l .code)))

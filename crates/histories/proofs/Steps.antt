@@ -15,7 +15,7 @@ use Rattle.lists.proofs.Keep.{each-mem, each-weaken, keep-all}
 use Rattle.encode.specs.declared.Header.{Header}
 use Rattle.encode.specs.Coded.{fault, noSpare}
 use Rattle.index.specs.State.{Mark, dead, unkeyed, keyed, isLive, Slot, State, live}
-use Rattle.index.specs.Codec.{encoded, scoreOf, tiny}
+use Rattle.index.specs.Codec.{encoded, scoreOf}
 use Rattle.index.specs.Step as Step
 use Rattle.index.specs.Step.{Item, Query, Answer, refused, done, flag, slot, maybeSlot, maybeKey, scoreIs, firstOf, when, unless, Cell, liveFrom, holdsAt, heldBy, isHeld, slotHolding, scoreAnswer, keyAnswer, onMark, removed, Outcome, answered, withSlots, guarded, appended, remarked, step}
 use Rattle.index.specs.History.{HistoryOp, add, addKeyed, addMulti, relabel, remove, compact, score, search, searchKeyed, keyOf, contains, slotOf, fileLength, write, opAt}
@@ -69,7 +69,7 @@ read-unless g (suc n) b e = refl
 score-read : (g : ℕ → Option ℕ) (h : Header) (q : Query) (o : Option Slot) → read g (scoreAnswer h q o) ≡ some (scoreAnswer h q o)
 unfolding scoreAnswer
 score-read g h q none = read-unless g (firstOf (fault h (q .vector) ∷ 9 ∷ [])) done refl
-score-read g h q (some s) = let x : Float = scoreOf h q (s .code) in read-unless g (firstOf (fault h (q .vector) ∷ when (tiny h) 10 ∷ when (isNan x) 12 ∷ [])) (scoreIs x) refl
+score-read g h q (some s) = let x : Float = scoreOf h q (s .code) in read-unless g (firstOf (fault h (q .vector) ∷ when (isNan x) 12 ∷ [])) (scoreIs x) refl
 
 -- ---- a call
 

@@ -36,6 +36,7 @@ use Rattle.index.specs.File.{fileOf}
 use Rattle.index.specs.Step.{Item, Query, Answer, refused, done, flag, slot, maybeSlot, maybeKey, scoreIs, hits, keyHits, size, bytes, Cell, liveFrom, keyOfMark, Hit, bySlot, byKey, rising, setBits}
 use Rattle.index.specs.Call.{Result, call}
 use Rattle.index.specs.Ties.{alike}
+use Rattle.index.specs.OneTrait.{oneTrait, traitScoreOf}
 use Rattle.index.specs.Answers.{result, hitCount, byteCount, firstEntries, found, foundKeyed, wrote, LaterKept}
 use Rattle.index.specs.Make.{newHeader, begun, make}
 use Rattle.index.specs.Read.{countIn, headerIn, keyFrom, entriesIn, slotIn, readInto}
@@ -330,6 +331,10 @@ SameAnswers =
 abbrev pub scores : Run → Query → List (ℕ × Float)
 scores r q = map (λ l. (l .arrival, scoreOf (r .told .header) q (l .code))) (r .told .living)
 
+-- 02, Req 05: the same by its sentence, for an index of padded size 1 and width 4
+abbrev pub traitScores : Run → Query → List (ℕ × Float)
+traitScores r q = map (λ l. (l .arrival, traitScoreOf (r .told .header) q (l .code))) (r .told .living)
+
 abbrev pub orderOf : ℕ × Float → ℕ
 orderOf x = orderNumber (x .1)
 
@@ -345,6 +350,8 @@ pub record ListsBest (m : Moment) (q : Query) (k : ℕ) : Type 0 where
   pub distinct : (a : ℕ) → times a list ≤ 1
   -- "and live"; "the list carries these scores"
   pub areLive : Each (λ x. List·Memᴰ x (scores (m .before) q)) list
+  -- 02, Req 05: "the query entry .. times its centroid, times the scale; the residual stage likewise, and the two are added"
+  pub traits : oneTrait (m .before .told .header) ≡ true → scores (m .before) q ≡ traitScores (m .before) q
   -- these are the scores that the call `score` gives of these arrivals at that moment
   pub asScored : Each (λ x. answer (record { before = m .before; op = score (x .0) q }) ≡ some (scoreIs (x .1))) list
   -- "order numbers never rising"

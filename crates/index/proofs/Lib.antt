@@ -15,3 +15,4 @@ pub mod Questions
 pub mod Appends
 pub mod Passed
 pub mod Ties
+pub mod OneTrait

@@ -110,7 +110,7 @@ module _ (h : Header) (q : Query) where
 
   refusal-renamed : (f : ℕ → ℕ) (xs : List Hit) → queryRefusal h q (map (renamedHit f) xs) ≡ queryRefusal h q xs
   unfolding queryRefusal
-  refusal-renamed f xs = rw (length-map xs (renamedHit f), any-map (λ (x : Hit). isNan (x .score)) (renamedHit f) xs)
+  refusal-renamed f xs = rw (any-map (λ (x : Hit). isNan (x .score)) (renamedHit f) xs)
 
   -- by what is shown of the hits
   searched-blind : (k places : ℕ) (shown : List Hit → Answer) → ((f : ℕ → ℕ) (xs : List Hit) → renamedAnswer f (shown xs) ≡ shown (map (renamedHit f) xs)) →

@@ -1,23 +1,27 @@
--- A refused call leaves the record and the arrays as they were; and no refusal is 0.
+-- A refused call leaves the record and the arrays as they were; and no refusal is 0 or 10.
 use mathlib.Core.Path.{_≡_, refl, sym, ap, _∙_, subst}
-use mathlib.Core.Bool.{Bool, true, false, not, _&&_}
+use mathlib.Core.Bool.{Bool, true, false, not, _&&_, true≢false}
 use mathlib.Core.List.{List, [], _∷_, map}
 use mathlib.Core.Option.{Option, none, some}
-use Prim.Native.Nat.{ℕ, zero, suc, _<_}
+use Prim.Native.Nat.{ℕ, zero, suc, _<_, min, max}
 use native.Mathlib.Omega.{arith}
 use lib.ListN.{length, getElem?}
-use lib.Dec.{T, ltb, eqb}
-use lib.Ieee.{isNan}
+use lib.Dec.{T, leb, ltb, eqb}
+use lib.Ieee.{Float, isNan}
+use borrow.Author.Tests.{ne-eqb}
+use Rattle.lists.specs.Keep.{Each, any}
+use Rattle.vectors.proofs.Faults.{fault-most}
 use Rattle.choose.specs.Choose.{choose}
 use Rattle.encode.specs.declared.Header.{Header}
 use Rattle.encode.specs.Coded.{fault}
 use Rattle.index.specs.declared.Index.{Index}
 use Rattle.index.specs.Arrays.{Arrays}
 use Rattle.index.specs.State.{Mark, keyed, Slot, State, headerOf, capacity, stateOf, recordOf, overlay}
-use Rattle.index.specs.Codec.{tiny, scoreOf}
+use Rattle.index.specs.Codec.{scoreOf}
 use Rattle.index.specs.Fit.{fit}
 use Rattle.index.specs.Step.{Op, setBits, add, addKeyed, addMulti, relabel, remove, removeAt, keyOf, contains, slotOf, enable, score, search, searchKeyed, searchCascade, compact, fileLength, write, Answer, refused, done, flag, slot, maybeSlot, maybeKey, scoreIs, hits, keyHits, size, bytes, firstOf, when, unless, Cell, liveFrom, slotHolding, positionOf, Item, Query, Hit, hitsOf, rank, bySlot, shortResult, queryRefusal, candidates, wide, fileBytes, Outcome, searched, searchedCascade, scoreAnswer, answered, guarded, appended, remarked, widthSet, step}
 use Rattle.index.specs.Call.{call}
+use Rattle.index.specs.OneTrait.{NeverTen}
 use Rattle.index.proofs.Fits.{overlay-self, record-self}
 
 -- what holds of both outcomes of a look-up
@@ -102,7 +106,28 @@ refused-unchanged x a op n e = go (fit x a) refl
           arrays = rw f (ap (λ (t : State). overlay a (t .slots)) same ∙ overlay-self x a f);
         }
 
--- ---- no refusal is 0, so that a call for C can answer 0 where there is none
+-- ---- which numbers are given: none is 0, so that a call for C can answer 0 where there is none, and none is 10
+
+-- not 10
+record NotTen (n : ℕ) : Type 0 where
+  other : eqb n 10 ≡ false
+
+-- the number of a refusal
+abbrev Given : ℕ → Type 0
+Given n = (0 < n) × NotTen n
+
+first-not-ten : (ns : List ℕ) → Each NotTen ns → NotTen (firstOf ns)
+unfolding firstOf
+first-not-ten [] k = record { other = refl }
+first-not-ten (zero ∷ ns) k = first-not-ten ns (k .1)
+first-not-ten (suc n ∷ ns) k = k .0
+
+when-not-ten : (b : Bool) (n : ℕ) → eqb n 10 ≡ false → NotTen (when b n)
+when-not-ten true n k = record { other = k }
+when-not-ten false n k = record { other = refl }
+
+fault-not-ten : (h : Header) (v : List Float) → NotTen (fault h v)
+fault-not-ten h v = record { other = ne-eqb (fault h v) 10 (λ e. omega (arith, e, fault-most (h .dim) (h .«working_dim») v)) }
 
 -- a refusal's number, and 1 for any other answer
 abbrev numberOf : Answer → ℕ
@@ -119,78 +144,111 @@ numberOf (size n) = 1
 numberOf (bytes bs) = 1
 
 abbrev Numbered : Outcome → Type 0
-Numbered o = 0 < numberOf (o .answer)
+Numbered o = Given (numberOf (o .answer))
 
-unless-numbered : (n : ℕ) (b : Answer) → 0 < numberOf b → 0 < numberOf (unless n b)
-unless-numbered zero b h = h
-unless-numbered (suc n) b h = omega arith
+-- of what is no refusal
+accepted-given : Given 1
+accepted-given = (omega arith, record { other = refl })
 
-score-numbered : (h : Header) (q : Query) (o : Option Slot) → 0 < numberOf (scoreAnswer h q o)
+suc-given : (n : ℕ) → NotTen (suc n) → Given (suc n)
+suc-given n k = (omega arith, k)
+
+unless-numbered : (n : ℕ) (b : Answer) → NotTen n → Given (numberOf b) → Given (numberOf (unless n b))
+unless-numbered zero b k g = g
+unless-numbered (suc n) b k g = suc-given n k
+
+query-not-ten : (h : Header) (q : Query) (xs : List Hit) → NotTen (queryRefusal h q xs)
+unfolding queryRefusal
+query-not-ten h q xs = first-not-ten _ (fault-not-ten h (q .vector), (when-not-ten (any (λ x. isNan (x .score)) xs) 12 refl, tt))
+
+short-not-ten : (k n places : ℕ) → NotTen (shortResult k n places)
+short-not-ten k n places = when-not-ten (ltb places (min (max k 1) n)) 13 refl
+
+score-numbered : (h : Header) (q : Query) (o : Option Slot) → Given (numberOf (scoreAnswer h q o))
 unfolding scoreAnswer
-score-numbered h q none = unless-numbered (firstOf (fault h (q .vector) ∷ 9 ∷ [])) done (omega arith)
+score-numbered h q none =
+    unless-numbered (firstOf (fault h (q .vector) ∷ 9 ∷ [])) done (first-not-ten _ (fault-not-ten h (q .vector), (record { other = refl }, tt))) accepted-given
 score-numbered h q (some t) =
     let x = scoreOf h q (t .code) in
-    unless-numbered (firstOf (fault h (q .vector) ∷ when (tiny h) 10 ∷ when (isNan x) 12 ∷ [])) (scoreIs x) (omega arith)
+    unless-numbered (firstOf (fault h (q .vector) ∷ when (isNan x) 12 ∷ [])) (scoreIs x) (first-not-ten _ (fault-not-ten h (q .vector), (when-not-ten (isNan x) 12 refl, tt))) accepted-given
 
-searched-numbered : (h : Header) (cs : List Cell) (q : Query) (k places : ℕ) (shown : List Hit → Answer) → ((xs : List Hit) → 0 < numberOf (shown xs)) →
-    0 < numberOf (searched h cs q k places shown)
+searched-numbered : (h : Header) (cs : List Cell) (q : Query) (k places : ℕ) (shown : List Hit → Answer) → ((xs : List Hit) → Given (numberOf (shown xs))) →
+    Given (numberOf (searched h cs q k places shown))
 unfolding searched
-searched-numbered h cs q k places shown above =
+searched-numbered h cs q k places shown given =
     let xs = hitsOf h q cs in
-    unless-numbered (firstOf (shortResult k (length cs) places ∷ queryRefusal h q xs ∷ [])) (shown (choose rank k xs)) (above (choose rank k xs))
+    let ns = shortResult k (length cs) places ∷ queryRefusal h q xs ∷ [] in
+    unless-numbered (firstOf ns) (shown (choose rank k xs)) (first-not-ten ns (short-not-ten k (length cs) places, (query-not-ten h q xs, tt))) (given (choose rank k xs))
 
-cascade-numbered : (s : State) (cs : List Cell) (q : Query) (k r places : ℕ) → 0 < numberOf (searchedCascade s cs q k r places)
+cascade-numbered : (s : State) (cs : List Cell) (q : Query) (k r places : ℕ) → Given (numberOf (searchedCascade s cs q k r places))
 unfolding searchedCascade
 cascade-numbered s cs q k r places =
     let xs = hitsOf (s .header) q (candidates (s .header) q (wide k r (length cs)) cs) in
-    unless-numbered (firstOf (shortResult k (length cs) places ∷ when (not (s .cascade && eqb (s .header .bits) 4)) 11 ∷ queryRefusal (s .header) q xs ∷ []))
-    (hits (map bySlot (choose rank k xs))) (omega arith)
+    let off = not (s .cascade && eqb (s .header .bits) 4) in
+    let ns = shortResult k (length cs) places ∷ when off 11 ∷ queryRefusal (s .header) q xs ∷ [] in
+    unless-numbered (firstOf ns) (hits (map bySlot (choose rank k xs)))
+    (first-not-ten ns (short-not-ten k (length cs) places, (when-not-ten off 11 refl, (query-not-ten (s .header) q xs, tt)))) accepted-given
 
 module _ (s : State) where
-  guarded-numbered : (n : ℕ) (o : Outcome) → Numbered o → Numbered (guarded s n o)
+  guarded-numbered : (n : ℕ) (o : Outcome) → NotTen n → Numbered o → Numbered (guarded s n o)
   unfolding guarded
-  guarded-numbered zero o h = h
-  guarded-numbered (suc n) o h = omega arith
+  guarded-numbered zero o k g = g
+  guarded-numbered (suc n) o k g = suc-given n k
 
   appended-numbered : (room : ℕ) (m : Mark) (v : Item) → Numbered (appended room s m v)
   unfolding appended
-  appended-numbered room m v = guarded-numbered _ _ (omega arith)
+  appended-numbered room m v =
+      guarded-numbered _ _ (first-not-ten _ (fault-not-ten (s .header) (v .vector), (when-not-ten (leb room (length (s .slots))) 8 refl, tt))) accepted-given
 
-  marked-numbered : (b : Bool) (n : ℕ) (f : Mark → Mark) → Numbered (remarked s b n f)
+  marked-numbered : (b : Bool) (n : ℕ) (f : Mark → Mark) → NotTen n → Numbered (remarked s b n f)
   unfolding remarked
-  marked-numbered true n f = guarded-numbered n _ (omega arith)
-  marked-numbered false n f = omega arith
+  marked-numbered true n f k = guarded-numbered n _ k accepted-given
+  marked-numbered false n f k = accepted-given
+
+  width-numbered : (w : ℕ) → Numbered (widthSet s w)
+  unfolding widthSet
+  width-numbered w =
+      let range = when-not-ten (not (leb 4 w && leb w 6)) 5 refl in
+      let unused = when-not-ten (ltb 0 (length (s .slots))) 6 refl in
+      let plain = when-not-ten (s .header .residual && not (eqb w 4)) 7 refl in
+      guarded-numbered _ _ (first-not-ten _ (range, (unused, (plain, tt)))) accepted-given
 
   step-numbered : (room : ℕ) (op : Op) → Numbered (step room s op)
-  unfolding step widthSet
-  step-numbered room (setBits w) = guarded-numbered _ _ (omega arith)
+  unfolding step
+  step-numbered room (setBits w) = width-numbered w
   step-numbered room (add v) = appended-numbered room _ v
-  step-numbered room (addKeyed j v) = either-way Numbered (slotHolding j 0 (liveFrom 0 (s .slots))) _ _ (λ e. appended-numbered room (keyed j 0) v) (λ i e. guarded-numbered _ _ (omega arith))
+  step-numbered room (addKeyed j v) =
+      either-way Numbered (slotHolding j 0 (liveFrom 0 (s .slots))) _ _ (λ e. appended-numbered room (keyed j 0) v)
+      (λ i e. guarded-numbered _ _ (fault-not-ten (s .header) (v .vector)) accepted-given)
   step-numbered room (addMulti j v) = appended-numbered room _ v
-  step-numbered room (relabel j k) = marked-numbered _ _ _
-  step-numbered room (remove j) = marked-numbered _ _ _
-  step-numbered room (removeAt j i) = either-way Numbered (positionOf j (getElem? (s .slots) i)) _ _ (λ e. omega arith) (λ gap e. marked-numbered true _ _)
-  step-numbered room (keyOf i) = omega arith
-  step-numbered room (contains j) = omega arith
-  step-numbered room (slotOf j i) = omega arith
-  step-numbered room enable = guarded-numbered _ _ (omega arith)
+  step-numbered room (relabel j k) = marked-numbered _ 0 _ (record { other = refl })
+  step-numbered room (remove j) = marked-numbered _ 0 _ (record { other = refl })
+  step-numbered room (removeAt j i) =
+      either-way Numbered (positionOf j (getElem? (s .slots) i)) _ _ (λ e. accepted-given) (λ gap e. marked-numbered true 0 _ (record { other = refl }))
+  step-numbered room (keyOf i) = accepted-given
+  step-numbered room (contains j) = accepted-given
+  step-numbered room (slotOf j i) = accepted-given
+  step-numbered room enable = guarded-numbered _ _ (when-not-ten (not (eqb (s .header .bits) 4)) 11 refl) accepted-given
   step-numbered room (score i q) = score-numbered _ q _
-  step-numbered room (search q k places) = searched-numbered _ _ q k places _ (λ xs. omega arith)
-  step-numbered room (searchKeyed q k places) = searched-numbered _ _ q k places _ (λ xs. omega arith)
+  step-numbered room (search q k places) = searched-numbered _ _ q k places _ (λ xs. accepted-given)
+  step-numbered room (searchKeyed q k places) = searched-numbered _ _ q k places _ (λ xs. accepted-given)
   step-numbered room (searchCascade q k r places) = cascade-numbered s _ q k r places
-  step-numbered room compact = omega arith
-  step-numbered room fileLength = omega arith
+  step-numbered room compact = accepted-given
+  step-numbered room fileLength = accepted-given
   step-numbered room (write places) =
       let bs = fileBytes (s .header) (liveFrom 0 (s .slots)) in
-      unless-numbered (when (ltb places (length bs)) 13) (bytes bs) (omega arith)
+      unless-numbered (when (ltb places (length bs)) 13) (bytes bs) (when-not-ten (ltb places (length bs)) 13 refl) accepted-given
 
-pub never-0 : (x : Index) (a : Arrays) (op : Op) → call x a op .answer ≡ refused 0 → ⊥
+call-numbered : (x : Index) (a : Arrays) (op : Op) → Given (numberOf (call x a op .answer))
 unfolding call
-never-0 x a op e = omega (arith, ap numberOf e, above)
+call-numbered x a op = go (fit x a) refl
   where
-    go : (b : Bool) → fit x a ≡ b → 0 < numberOf (call x a op .answer)
-    go false f = rw f (omega arith)
+    go : (b : Bool) → fit x a ≡ b → Given (numberOf (call x a op .answer))
+    go false f = rw f (suc-given 12 (record { other = refl }))
     go true f = rw f (step-numbered (stateOf x a) (capacity (headerOf x) a) op)
 
-    above : 0 < numberOf (call x a op .answer)
-    above = go (fit x a) refl
+pub never-0 : (x : Index) (a : Arrays) (op : Op) → call x a op .answer ≡ refused 0 → ⊥
+never-0 x a op e = omega (arith, ap numberOf e, call-numbered x a op .0)
+
+pub never-ten : NeverTen
+never-ten x a op e = true≢false (ap (λ (b : Answer). eqb (numberOf b) 10) (sym e) ∙ call-numbered x a op .1 .other)

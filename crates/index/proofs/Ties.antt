@@ -5,14 +5,14 @@ use mathlib.Core.List.{List, [], _∷_, _++_, map, append-assoc, List·Memᴰ, L
 use mathlib.Core.Option.{Option, none, some, Option·some-injective}
 use Prim.Native.Nat.{ℕ, zero, suc, _+_, _≤_, _<_}
 use native.Mathlib.Omega.{arith}
-use lib.ListN.{length, length-map, getElem?}
+use lib.ListN.{length, getElem?}
 use lib.Dec.{T, eqb}
 use lib.Ieee.{Float, binary32, eq, fits, isNan}
 use borrow.Author.Tests.{eq-eqb}
 use Rattle.lists.specs.Keep.{keep, any, Each}
 use Rattle.lists.proofs.Keep.{either, each-mem, each-weaken, each-append, each-keep, keep-map}
 use Rattle.lists.proofs.Front.{each-map, map-each}
-use Rattle.lists.proofs.Members.{each-of, mem-length}
+use Rattle.lists.proofs.Members.{each-of}
 use Rattle.choose.specs.Falling.{RisesBy}
 use Rattle.choose.specs.Choose.{choose}
 use Rattle.choose.proofs.Choice.{choose-each}
@@ -106,7 +106,7 @@ module _ (h : Header) (q : Query) (cs : List Cell) (k : ℕ) where
         scored : (c : Cell) → List·Memᴰ c cs → scoreAnswer h q (getElem? ss (c .number)) ≡ scoreIs (hitOf h q c .score)
         scored c m =
             ap (scoreAnswer h q) (each-of (There ss) m at) ∙
-            scored-as h q (hitsOf h q cs) passed (omega (arith, mem-length m, length-map cs (hitOf h q))) (c .slot)
+            scored-as h q (hitsOf h q cs) passed (c .slot)
             (each-of (λ (c : Cell). isNan (hitOf h q c .score) ≡ false) m (map-each (λ (y : Hit). isNan (y .score) ≡ false) (hitOf h q) cs (no-nan h q (hitsOf h q cs) passed)))
 
   module _ (up : RisesBy (λ c. c .number) cs) (s : Float) where

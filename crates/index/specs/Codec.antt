@@ -1,8 +1,6 @@
 -- Encoding, scoring and cascade distance as the header fixes them: the definitions of the crates below at its padded size and seed, by any table, and then by its own.
-use mathlib.Core.Bool.{Bool, _&&_}
 use mathlib.Core.List.{map}
 use Prim.Native.Nat.{ℕ, _+_, _-_, _/_}
-use lib.Dec.{eqb}
 use lib.Ieee.{Float}
 use Rattle.lists.specs.Lists.{zipWith, total}
 use Rattle.pattern.specs.Binary32.{_⊗_}
@@ -22,10 +20,6 @@ use Rattle.score.specs.Score.{slotScore}
 
 unfoldable pub scoreByTable : Table → Header → Query → Code → Float
 scoreByTable t h q c = slotScore (h .bits) (t .centroids) (prepared (rotatedOf h (q .vector))) (c .first) (c .second)
-
--- 01, 10: "padded size 1 at 4 bits"
-abbrev pub tiny : Header → Bool
-tiny h = eqb (padded h) 1 && eqb (h .bits) 4
 
 -- ---- cascade
 

@@ -10,6 +10,7 @@ pub mod Call
 pub mod Ties
 pub mod Make
 pub mod Answers
+pub mod OneTrait
 pub mod History
 pub mod Sound
 pub mod Read

@@ -13,7 +13,7 @@ pub use Rattle.unit.specs.Brought.{Item, itemOf, Query, queryOf}
 use Rattle.encode.specs.declared.Header.{Header}
 use Rattle.encode.specs.Coded.{fault, noSpare, spareOf}
 use Rattle.index.specs.State.{Mark, dead, unkeyed, keyed, Slot, State, live, withBits, newSlot, withCode, withMark}
-use Rattle.index.specs.Codec.{tiny, encoded, scoreOf, distance}
+use Rattle.index.specs.Codec.{encoded, scoreOf, distance}
 use Rattle.index.specs.File.{Entry, fileOf}
 
 -- ---- calls and answers
@@ -119,10 +119,9 @@ hitOf h q c = record { number = c .number; key = keyOfMark (c .slot .mark); scor
 abbrev pub rank : Hit → ℕ
 rank x = orderNumber (x .score)
 
--- 1, 2, 3; 10, "a slot to score"; 12, "a score to be ranked .. is NaN"
+-- 1, 2, 3; 12, "a score to be ranked .. is NaN"
 unfoldable pub queryRefusal : Header → Query → List Hit → ℕ
-queryRefusal h q xs =
-    firstOf (fault h (q .vector) ∷ when (tiny h && ltb 0 (length xs)) 10 ∷ when (any (λ x. isNan (x .score)) xs) 12 ∷ [])
+queryRefusal h q xs = firstOf (fault h (q .vector) ∷ when (any (λ x. isNan (x .score)) xs) 12 ∷ [])
 
 -- 01, 13: "a result, keyed too, for min(max(k,1), live) places"
 abbrev pub shortResult : (k live places : ℕ) → ℕ
@@ -171,12 +170,12 @@ searchedCascade s cs q k r places =
 
 -- ---- questions about one slot, a dead one too
 
--- 1, 2, 3, 9, 10, 12
+-- 1, 2, 3, 9, 12
 unfoldable pub scoreAnswer : Header → Query → Option Slot → Answer
 scoreAnswer h q none = unless (firstOf (fault h (q .vector) ∷ 9 ∷ [])) done
 scoreAnswer h q (some s) =
     let x = scoreOf h q (s .code) in
-    unless (firstOf (fault h (q .vector) ∷ when (tiny h) 10 ∷ when (isNan x) 12 ∷ [])) (scoreIs x)
+    unless (firstOf (fault h (q .vector) ∷ when (isNan x) 12 ∷ [])) (scoreIs x)
 
 -- 01: "a slot past those in use has no key"
 abbrev pub keyAnswer : Option Slot → Option ℕ

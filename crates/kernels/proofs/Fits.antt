@@ -8,13 +8,13 @@ use native.Mathlib.Omega.{arith}
 use borrow.Author.Tests.{le-leb, lt-leb, eq-eqb, ne-eqb, leb-true, eqb-true, not-true, not-false}
 use lib.Dec.{leb, eqb, lit<}
 use lib.Pow.{pow-lt}
-use lib.ListN.{length}
-use lib.Ieee.{Float, binary32, ofBits}
+use lib.ListN.{length, getD}
+use lib.Ieee.{Float, nan, binary32, ofBits}
 use Rattle.lists.proofs.Tests.{both}
 use Rattle.codes.specs.Packing.{bytesPerVector}
 use Rattle.codes.specs.Writing.{atWidth}
 use Rattle.codes.proofs.Tests.{at-width}
-use Rattle.score.specs.Score.{fitting, ofBlock, blockProducts}
+use Rattle.score.specs.Score.{loneProduct, fitting, ofBlock, blockProducts}
 
 -- ---- the tests
 
@@ -64,6 +64,11 @@ at-four centroids block query r is n = let f = fits 4 centroids block query r is
 -- at any width the table has a centroid for each code
 pub at-any : (w centroids block query : ℕ) (r : Bool) → r ≡ fitting w centroids block query → not r ≡ false → (0 < w) × (w ≤ 8) × (centroids ≡ 2 ^ w)
 at-any w centroids block query r is n = let f = fits w centroids block query r is n in (omega arith, omega arith, f .table)
+
+-- of a single product
+pub lone-product : (products : List Float) (x : Float) → x ≡ getD products 0 nan → x ≡ loneProduct products
+unfolding loneProduct
+lone-product products x e = e
 
 module _ (sums : List Float → Float) (w : ℕ) (centroids : List Float) (block : List ℕ) (query : List Float) (r : Bool) (is : r ≡ fitting w (length centroids) (length block) (length query)) where
   pub summed : not r ≡ false → sums (blockProducts w centroids block query) ≡ ofBlock sums w centroids block query

@@ -8,7 +8,7 @@ ghost use Rattle.pattern.specs.Binary32.{_⊕_, sumOf};
 ghost use Rattle.lists.specs.Lists.{tab};
 ghost use Rattle.codes.specs.Stage.{stage};
 ghost use Rattle.score.specs.Lanes.{lanes};
-ghost use Rattle.score.specs.Score.{byteSums, indexSums, blockProducts, byteTerms, fitting, ofBlock, rawOfBlock, stageScore};
+ghost use Rattle.score.specs.Score.{loneProduct, byteSums, indexSums, blockProducts, byteTerms, fitting, ofBlock, rawOfBlock, stageScore};
 
 // Whether a table, a block and a query of such lengths fit one another at this width.
 fn fitting(bits: u8, centroids: usize, block: usize, query: usize) -> bool
@@ -150,14 +150,28 @@ fn score_wide_scalar(block: &[u8], query: &[f32], centroids: &[f32], bits: u8) -
     folds::fold_four(acc)
 }
 
+// The raw score of a block of one code of 4 bits: its product. +0 where block, query and table don't fit one another.
+fn score_lone(block: &[u8], query: &[f32], centroids: &[f32]) -> f32
+    requires { ⌜ length (now query) ≡ 1 ⌝ }
+    ensures { λ r. ⌜ r ≡ ofBlock loneProduct 4 (now (centroids .entry)) (now (block .entry)) (now (query .entry)) ⌝ }
+{
+    if !fitting(4, centroids.len(), block.len(), query.len()) {
+        return 0.0;
+    }
+    product(block, query, centroids, 4, 0)
+}
+
 // The raw score of a block by its width (`score_raw_dispatch`, without the vector instructions).
 fn raw_score(bits: u8, centroids: &[f32], block: &[u8], query: &[f32]) -> f32
     ensures { λ r. ⌜ r ≡ rawOfBlock bits (now (centroids .entry)) (now (block .entry)) (now (query .entry)) ⌝ }
 {
-    if bits == 4 {
-        return score_scalar(block, query, centroids);
+    if bits != 4 {
+        return score_wide_scalar(block, query, centroids, bits);
     }
-    score_wide_scalar(block, query, centroids, bits)
+    if query.len() == 1 {
+        return score_lone(block, query, centroids);
+    }
+    score_scalar(block, query, centroids)
 }
 
 // The score of one stage. The scale is a pattern, since a float can't hold what a NaN's pattern says.

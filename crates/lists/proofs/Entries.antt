@@ -1,12 +1,13 @@
 -- One place of a tabulation changed, the entries of a list of known length, and the entries of two lists zipped.
 use mathlib.Core.Path.{_≡_, refl, sym, ap, _∙_}
 use mathlib.Core.Logic.{_≢_}
-use mathlib.Core.List.{List, [], _∷_}
-use Prim.Native.Nat.{ℕ, zero, suc, _+_, _-_, _<_}
+use mathlib.Core.List.{List, [], _∷_, map}
+use mathlib.Core.Option.{none, some, Option·map}
+use Prim.Native.Nat.{ℕ, zero, suc, _+_, _-_, _≤_, _<_}
 use native.Mathlib.Nat.{not-suc-le-zero, le-of-suc-le-suc}
 use native.Mathlib.Decide.{ℕ-discrete, decLt}
 use native.Mathlib.Omega.{arith}
-use lib.ListN.{length, drop, getD, set, length-set}
+use lib.ListN.{length, drop, getD, getElem?, set, length-set}
 use lib.Seq.{getD-set-same, getD-set-other, getD-drop, ext-getD}
 use Rattle.lists.specs.Lists.{tab, zipWith}
 use Rattle.lists.proofs.Laws.{length-tab, getD-tab, tab-getD}
@@ -34,6 +35,32 @@ module _ {A : Type 0} where
           let j : m + (i - m) ≡ i = omega arith in
           ap (λ (k : ℕ). getD xs k d) (sym j) ∙ sym (getD-drop m xs (i - m) d) ∙ ap (λ (zs : List A). getD zs (i - m) d) f ∙ getD-drop m ys (i - m) d ∙
           ap (λ (k : ℕ). getD ys k d) j
+
+  -- ---- an entry that may not be there
+
+  elem-in : (xs : List A) (i : ℕ) (d : A) → i < length xs → getElem? xs i ≡ some (getD xs i d)
+  elem-in [] i d l = absurd (omega arith)
+  elem-in (x ∷ xs) zero d l = refl
+  elem-in (x ∷ xs) (suc i) d l = elem-in xs i d (omega arith)
+
+  elem-past : (xs : List A) (i : ℕ) → length xs ≤ i → getElem? xs i ≡ none
+  elem-past [] i l = refl
+  elem-past (x ∷ xs) zero l = absurd (omega arith)
+  elem-past (x ∷ xs) (suc i) l = elem-past xs i (omega arith)
+
+  module _ (f : ℕ → A) (n i : ℕ) where
+    pub tab-in : i < n → getElem? (tab f n) i ≡ some (f i)
+    tab-in l = elem-in (tab f n) i (f i) (rw (length-tab f n) l) ∙ ap some (getD-tab f n i (f i) l)
+
+    pub tab-past : n ≤ i → getElem? (tab f n) i ≡ none
+    tab-past l = elem-past (tab f n) i (rw (length-tab f n) l)
+
+pub elem-map : {A B : Type 0} (f : A → B) (xs : List A) (i : ℕ) → getElem? (map f xs) i ≡ Option·map f (getElem? xs i)
+elem-map f [] i = refl
+elem-map f (x ∷ xs) zero = refl
+elem-map f (x ∷ xs) (suc i) = elem-map f xs i
+
+-- ---- two lists zipped
 
 module _ {A B C : Type 0} (f : A → B → C) where
   pub length-zip : (xs : List A) (ys : List B) → length ys ≡ length xs → length (zipWith f xs ys) ≡ length xs

@@ -2,9 +2,6 @@
 use mathlib.Core.Path.{_≡_, refl, ap, sym, _∙_, subst}
 use mathlib.Core.Bool.{Bool, true, false, _||_}
 use mathlib.Core.List.{List, [], _∷_, map, List·Memᴰ, List·Memᴰ·head, List·Memᴰ·tail}
-use Prim.Native.Nat.{_<_}
-use native.Mathlib.Omega.{arith}
-use lib.ListN.{length}
 use lib.Dec.{T}
 use Rattle.lists.specs.Keep.{Each, any}
 
@@ -17,10 +14,6 @@ module _ {X : Type 0} where
   pub mem-map : {Y : Type 0} (f : X → Y) {x : X} {xs : List X} → List·Memᴰ x xs → List·Memᴰ (f x) (map f xs)
   mem-map f (List·Memᴰ·head e) = List·Memᴰ·head (ap f e)
   mem-map f (List·Memᴰ·tail m) = List·Memᴰ·tail (mem-map f m)
-
-  pub mem-length : {x : X} {xs : List X} → List·Memᴰ x xs → 0 < length xs
-  mem-length (List·Memᴰ·head e) = omega arith
-  mem-length (List·Memᴰ·tail m) = omega arith
 
   pub any-none : (p : X → Bool) (xs : List X) → any p xs ≡ false → Each (λ x. p x ≡ false) xs
   unfolding any

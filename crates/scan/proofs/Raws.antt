@@ -15,8 +15,8 @@ use Rattle.digits.proofs.Below.{below-take, below-drop}
 use Rattle.codes.specs.Packing.{bytesPerVector}
 use Rattle.codes.proofs.Slots.{block-there, length-block}
 use Rattle.score.specs.Lanes.{bracketed}
-use Rattle.score.specs.Score.{byteSums, indexSums, rawSums, blockProducts, byteTerms, fitting, ofBlock, rawOfBlock, stageScore}
-use Rattle.score.proofs.Products.{length-terms}
+use Rattle.score.specs.Score.{loneProduct, byteSums, indexSums, rawSums, blockProducts, byteTerms, fitting, ofBlock, rawOfBlock, stageScore}
+use Rattle.score.proofs.Products.{length-products, length-terms}
 use Rattle.scan.specs.Scan.{takesPart, stageOf, scoreNow}
 use Rattle.scan.specs.Pairs.{Paired, Halved}
 use Rattle.scan.specs.Groups.{partAt, byteLanes, wideLanes, rawBy, scoreBy, rawFrom, Summed, Raw, Rescored, Grouped}
@@ -40,17 +40,26 @@ module _ (cs pairs query evens odds : List Float) (block : List ℕ) (bytes : Be
   unfolding wideLanes indexSums
   wide-raw w p e = rw (pair-products w cs pairs p block query e)
 
+  abbrev products : (w : ℕ) → List Float
+  products w = blockProducts w cs block query
+
+  -- groups of 16 are more than one
+  not-lone : (w : ℕ) → length (products w) ≡ 1 → ⊥
+  not-lone w one = omega (arith, one, length-products w cs block query, groups)
+
   pub raw-by : (w : ℕ) → 4 ≤ w → w ≤ 6 → Paired w cs pairs (2 ^ w * 2 ^ w) → length cs ≡ 2 ^ w → length block ≡ bytesPerVector w (length query)
       → rawBy w evens odds pairs query block ≡ rawOfBlock w cs block query
   unfolding rawBy rawOfBlock ofBlock rawSums fitting
   raw-by w from to p e size = rw (le-leb 4 w from, le-leb w 6 to, eq-eqb (length cs) (2 ^ w) e, eq-eqb (length block) (bytesPerVector w (length query)) size) (go (eqb w 4) refl)
     where
       go : (b : Bool) → eqb w 4 ≡ b
-          → cond b (bracketed 3 (byteLanes evens odds pairs block) ⊕ +0) (bracketed 2 (wideLanes w pairs query block)) ≡ cond b byteSums indexSums (blockProducts w cs block query)
+          → cond b (bracketed 3 (byteLanes evens odds pairs block) ⊕ +0) (bracketed 2 (wideLanes w pairs query block))
+          ≡ cond b (cond (eqb (length (products w)) 1) (loneProduct (products w)) (byteSums (products w))) (indexSums (products w))
       go true f =
           let four : w ≡ 4 = eqb-true w 4 f in
-          byte-raw (subst (λ (z : ℕ). Paired z cs pairs (2 ^ z * 2 ^ z)) four p) (e ∙ ap (λ (z : ℕ). 2 ^ z) four) (size ∙ ap (λ (z : ℕ). bytesPerVector z (length query)) four)
-          ∙ ap (λ (z : ℕ). byteSums (blockProducts z cs block query)) (sym four)
+          rw (ne-eqb (length (products w)) 1 (not-lone w))
+          (byte-raw (subst (λ (z : ℕ). Paired z cs pairs (2 ^ z * 2 ^ z)) four p) (e ∙ ap (λ (z : ℕ). 2 ^ z) four) (size ∙ ap (λ (z : ℕ). bytesPerVector z (length query)) four)
+          ∙ ap (λ (z : ℕ). byteSums (products z)) (sym four))
       go false f = wide-raw w p e
 
 -- ---- a slot

@@ -2,4 +2,5 @@
 pub mod Lanes
 pub mod Products
 pub mod Slot
+pub mod OneTrait
 pub mod Order

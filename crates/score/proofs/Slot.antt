@@ -5,19 +5,25 @@ use mathlib.Core.Option.{Option, none, some}
 use Prim.Native.Nat.{ℕ}
 use borrow.Author.Tests.{ne-eqb}
 use lib.Dec.{T}
+use lib.ListN.{length}
 use lib.Ieee.{Float, binary32, ofBits, fits}
 use lib.Ieee.Fits.{add-fits, mul-fits}
 use Rattle.pattern.specs.Binary32.{_⊕_, _⊗_}
 use Rattle.codes.specs.Stage.{Stage, stage}
-use Rattle.score.specs.Score.{byteSums, indexSums, rawSums, ofBlock, rawOfBlock, stageScore, slotScore, judged}
+use Rattle.score.proofs.Products.{length-products}
+use Rattle.score.specs.Score.{loneProduct, byteSums, indexSums, rawSums, ofBlock, rawOfBlock, stageScore, slotScore, judged}
 
 module _ (w : ℕ) (centroids : List Float) (block : List ℕ) (query : List Float) where
-  pub raw-four : w ≡ 4 → ofBlock byteSums 4 centroids block query ≡ rawOfBlock w centroids block query
-  unfolding rawOfBlock rawSums
-  raw-four e = rw e
+  pub raw-lone : w ≡ 4 → length query ≡ 1 → ofBlock loneProduct 4 centroids block query ≡ rawOfBlock w centroids block query
+  unfolding rawOfBlock ofBlock rawSums
+  raw-lone e one = rw (e, length-products 4 centroids block query, one)
+
+  pub raw-four : w ≡ 4 → (length query ≡ 1 → ⊥) → ofBlock byteSums 4 centroids block query ≡ rawOfBlock w centroids block query
+  unfolding rawOfBlock ofBlock rawSums
+  raw-four e more = rw (e, length-products 4 centroids block query, ne-eqb (length query) 1 more)
 
   pub raw-wide : (w ≡ 4 → ⊥) → ofBlock indexSums w centroids block query ≡ rawOfBlock w centroids block query
-  unfolding rawOfBlock rawSums
+  unfolding rawOfBlock ofBlock rawSums
   raw-wide n = rw (ne-eqb w 4 n)
 
   pub scaled : (raw factor : Float) (scale : ℕ) → raw ≡ rawOfBlock w centroids block query → factor ≡ ofBits binary32 scale → raw ⊗ factor ≡ stageScore w centroids query (stage scale block)

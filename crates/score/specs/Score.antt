@@ -4,8 +4,8 @@ use Prim.Native.Nat.{ℕ, _*_, _/_, _^_}
 use mathlib.Core.Bool.{Bool, _&&_, cond}
 use mathlib.Core.Option.{Option, none, some}
 use lib.Dec.{leb, eqb}
-use lib.ListN.{length, take, drop}
-use lib.Ieee.{Float, binary32, ofBits, isNan}
+use lib.ListN.{length, take, drop, getD}
+use lib.Ieee.{Float, nan, binary32, ofBits, isNan}
 use Rattle.pattern.specs.Binary32.{_⊕_, _⊗_, +0, sumOf}
 use Rattle.lists.specs.Lists.{zipWith}
 use Rattle.lloyd.specs.Quantizer.{decoded}
@@ -32,9 +32,13 @@ byteSums products =
 unfoldable pub indexSums : List Float → Float
 indexSums products = bracketed 2 (lanes 4 products)
 
--- the raw score: the products added up as the width says
+-- 02, Req 05: "At padded size 1 and width 4 .. the query entry .. times its centroid": the one product as it is, with nothing added to it
+unfoldable pub loneProduct : List Float → Float
+loneProduct products = getD products 0 nan
+
+-- the raw score: the products added up as the width says, and at 4 bits a single product by itself
 unfoldable pub rawSums : (w : ℕ) → List Float → Float
-rawSums w = cond (eqb w 4) byteSums indexSums
+rawSums w products = cond (eqb w 4) (cond (eqb (length products) 1) (loneProduct products) (byteSums products)) (indexSums products)
 
 -- ---- the raw score of a block, as a slot stores it
 

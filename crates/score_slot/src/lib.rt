@@ -9,43 +9,13 @@ ghost use Rattle.encode.specs.Coded.{codeIn};
 ghost use Rattle.score.specs.Score.{slotScore, judged};
 ghost use Rattle.index.specs.Arrays.{lent};
 ghost use Rattle.index.specs.State.{headerOf, stageAt};
-ghost use Rattle.index.specs.Codec.{tiny, scoreOf};
+ghost use Rattle.index.specs.Codec.{scoreOf};
 ghost use Rattle.index.specs.Step as Step;
 ghost use Rattle.index.specs.Step.{queryOf};
 ghost use Rattle.index.specs.Call.{call};
 ghost use Rattle.index.specs.Answers.{result, scored};
-ghost use Rattle.score_slot.specs.Query.{queryFault};
 use index::Index;
 use score::Scored;
-
-// ---- the query
-
-// Refusal 10: padded size 1 at 4 bits.
-fn is_tiny(index: Index) -> bool
-    ensures { λ r. ⌜ r ≡ tiny (headerOf index) ⌝ }
-{
-    if padding::padded_dim(index.working_dim) == 1 {
-        return index.bits == 4;
-    }
-    false
-}
-
-// The refusal of a query before any score: 1, 2, 3, and 10 where there is any slot to score; 0 for none.
-pub fn query_fault(index: Index, any: bool, query: &[f32]) -> u8
-    ensures { λ r. ⌜ r ≡ queryFault (headerOf index) any (queryOf (now (query .entry))) ⌝ }
-{
-    let fault = vectors::vector_fault(index.dim, index.working_dim, query);
-    if fault != 0 {
-        return fault;
-    }
-    if !any {
-        return 0;
-    }
-    if is_tiny(index) {
-        return 10;
-    }
-    0
-}
 
 // A working array. Its contents don't matter.
 fn floats() -> [f32; 4096] {
@@ -127,7 +97,7 @@ fn score_by_width(
 
 // ---- the call
 
-// The score of a slot under a query, refused by 13, 1, 2, 3, 9, 10 and 12 in this order.
+// The score of a slot under a query, refused by 13, 1, 2, 3, 9 and 12 in this order.
 pub fn score(
     index: Index,
     codes: &[u8],
@@ -159,12 +129,11 @@ pub fn score(
     ) {
         return Scored::Refused(13);
     }
-    let used = slot < index.n;
-    let fault = query_fault(index, used, query);
+    let fault = vectors::vector_fault(index.dim, index.working_dim, query);
     if fault != 0 {
         return Scored::Refused(fault);
     }
-    if used {
+    if slot < index.n {
         return score_by_width(index, codes, scales, codes2, scales2, slot, query);
     }
     Scored::Refused(9)

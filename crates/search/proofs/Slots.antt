@@ -4,7 +4,6 @@ use mathlib.Core.Bool.{Bool, true}
 use mathlib.Core.List.{List, map}
 use Prim.Native.Nat.{ℕ}
 use lib.ListN.{length}
-use lib.Dec.{ltb}
 use lib.Ieee.{Float}
 use Rattle.lists.specs.Lists.{over}
 use Rattle.index.specs.declared.Index.{Index}
@@ -48,7 +47,7 @@ module _ (x : Index) (a : Arrays) (q : Query) (k places : ℕ) where
       none = sym e ∙ z
 
       yes : can ≡ true
-      yes = is-ready x a (searched-fits x a q k places none) (ltb 0 (x .live)) q (searched-query x a q k places none)
+      yes = is-ready x a (searched-fits x a q k places none) q (searched-query x a q k places none)
 
       answers : result x a (unless (when (liveNan x a q) 12) (hits (liveChosen x a q k))) ≡ call x a (Step.search q k places)
       answers =

@@ -12,7 +12,7 @@ use index::Found;
 use index::Index;
 
 // Writes the chosen slots' numbers and scores to the first places of `slots` and `scores`, and answers how many they are.
-// Refused by 13, 1, 2, 3, 10 and 12 in this order.
+// Refused by 13, 1, 2, 3 and 12 in this order.
 pub fn search(
     index: Index,
     codes: &[u8],

@@ -7,13 +7,14 @@ use native.Mathlib.Omega.{arith}
 use lib.Dec.{ltb, eqb}
 use lib.ListN.{length, length-map}
 use lib.Ieee.{Float, isNan}
-use borrow.Author.Tests.{le-leb, lt-ltb, le-ltb, ltb-false, eqb-true, eq-eqb}
+use borrow.Author.Tests.{le-leb, ltb-false, eqb-true, eq-eqb}
 use Rattle.lists.specs.Lists.{over, below}
 use Rattle.lists.specs.Keep.{keep, any}
 use Rattle.choose.specs.Choose.{choose}
 use Rattle.choose.proofs.Choice.{choose-length}
 use Rattle.score.specs.Order.{orderNumber}
 use Rattle.lists.proofs.Tests.{both}
+use Rattle.encode.specs.Coded.{fault}
 use Rattle.index.specs.declared.Index.{Index}
 use Rattle.index.specs.declared.Found.the-variants as Found
 use Rattle.index.specs.Arrays.{Arrays}
@@ -30,7 +31,6 @@ use Rattle.held.proofs.Live.{cellAt}
 use Rattle.nearest.specs.Distances.{distanceAt}
 use Rattle.nearest.specs.Nearest.{nearMarks}
 use Rattle.nearest.specs.Nearest as Nearest
-use Rattle.score_slot.specs.Query.{queryFault}
 use Rattle.score_slot.proofs.Query.{query-rotatable}
 use Rattle.scan.specs.Scan.{takesPart}
 use Rattle.hits.specs.declared.Listed.{Listed}
@@ -50,7 +50,7 @@ module _ (x : Index) (a : Arrays) (q : Query) (k places n : ℕ) where
   placesTest = placesFault x a k places
 
   abbrev queryTest : ℕ
-  queryTest = queryFault (headerOf x) (ltb 0 (x .live)) q
+  queryTest = fault (headerOf x) (q .vector)
 
   pub fault-places : n ≡ placesTest → (n ≡ 0 → ⊥) → n ≡ cascadeFault x a q k places
   unfolding cascadeFault firstOf
@@ -101,20 +101,13 @@ module _ (x : Index) (a : Arrays) (q : Query) (k r places : ℕ) where
       cells-count : length (cells (headerOf x) a marks (x .n)) ≡ min many (x .live)
       cells-count = ap length (sym (candidates-marked x a q many marks are)) ∙ candidates-count x a q many e (at-four x on)
 
-      some-live : ltb 0 (length (cells (headerOf x) a marks (x .n))) ≡ ltb 0 (x .live)
-      some-live = ap (ltb 0) cells-count ∙ go (x .live)
-        where
-          go : (n : ℕ) → ltb 0 (min (wide k r n) n) ≡ ltb 0 n
-          go zero = le-ltb 0 (min (wide k r 0) 0) (omega arith)
-          go (suc n) = lt-ltb 0 (min (wide k r (suc n)) (suc n)) (omega arith) ∙ sym (lt-ltb 0 (suc n) (omega arith))
-
-      tests : (w : ℕ) → firstOf (shortResult k (x .live) places ∷ when (not (enabled x)) 11 ∷ firstOf (queryFault (headerOf x) (ltb 0 (x .live)) q ∷ w ∷ []) ∷ []) ≡
+      tests : (w : ℕ) → firstOf (shortResult k (x .live) places ∷ when (not (enabled x)) 11 ∷ firstOf (fault (headerOf x) (q .vector) ∷ w ∷ []) ∷ []) ≡
           firstOf (cascadeFault x a q k places ∷ w ∷ [])
       unfolding cascadeFault placesFault firstOf
       tests w =
           let s = shortResult k (x .live) places in
           let c = when (not (enabled x)) 11 in
-          let f = queryFault (headerOf x) (ltb 0 (x .live)) q in
+          let f = fault (headerOf x) (q .vector) in
           first-last (s ∷ c ∷ []) (f ∷ w ∷ [])
           ∙ sym (first-nested (placesFault x a k places ∷ c ∷ f ∷ []) (w ∷ []) ∙ first-nested (when (not (fit x a)) 13 ∷ s ∷ []) (c ∷ f ∷ w ∷ [])
           ∙ (λ j. firstOf (when (not (e j)) 13 ∷ s ∷ c ∷ f ∷ w ∷ [])))
@@ -132,9 +125,6 @@ module _ (x : Index) (a : Arrays) (q : Query) (k r places : ℕ) where
           unless (firstOf (shortResult k (x .live) places ∷ when (not (enabled x)) 11 ∷ queryRefusal h q xs ∷ [])) (hits (map bySlot (choose rank k xs))))
           ∙ (λ j. unless (firstOf (shortResult k (x .live) places ∷ when (not (enabled x)) 11 ∷ query-refusal h a q marks (x .n) j ∷ []))
           (hits (hits-listed h a q marks (x .n) k j)))
-          ∙ (λ j.
-          unless (firstOf (shortResult k (x .live) places ∷ when (not (enabled x)) 11 ∷ firstOf (queryFault h (some-live j) q ∷ when nanFound 12 ∷ []) ∷ []))
-          (hits candidateHits))
           ∙ ap (λ (n : ℕ). unless n (hits candidateHits)) (tests (when nanFound 12))
 
       by-tests : (answer : Answer) → unless (firstOf (cascadeFault x a q k places ∷ when nanFound 12 ∷ [])) (hits candidateHits) ≡ answer →
@@ -150,7 +140,7 @@ module _ (x : Index) (a : Arrays) (q : Query) (k r places : ℕ) where
   idle-answer e off =
       let h = headerOf x in
       let s = shortResult k (x .live) places in
-      let f = queryFault h (ltb 0 (x .live)) q in
+      let f = fault h (q .vector) in
       let found : ℕ → List Hit = λ n. hitsOf h q (candidates h q (wide k r n) liveCells) in
       let shown : ℕ → Answer = λ n. hits (map bySlot (choose rank k (found n))) in
       (λ j. let n = live-length x a e j in unless (firstOf (shortResult k n places ∷ when (not (off j)) 11 ∷ queryRefusal h q (found n) ∷ [])) (shown n))
@@ -197,7 +187,7 @@ module _ (x : Index) (a : Arrays) (q : Query) (k r places : ℕ) where
       parts true c e o (suc s) g t = absurd (let z : suc s ≡ 0 = t in omega arith)
       parts false c e o s g t = absurd (let z : _≡_ {A = ℕ} 13 0 = t in omega arith)
 
-      passed : (fit x a ≡ true) × (enabled x ≡ true) × (shortResult k (x .live) places ≡ 0) × (queryFault (headerOf x) (ltb 0 (x .live)) q ≡ 0)
+      passed : (fit x a ≡ true) × (enabled x ≡ true) × (shortResult k (x .live) places ≡ 0) × (fault (headerOf x) (q .vector) ≡ 0)
       unfolding cascadeFault placesFault
       passed = parts (fit x a) (enabled x) refl refl _ _ (sym is ∙ zeroed)
 
@@ -207,7 +197,7 @@ module _ (x : Index) (a : Arrays) (q : Query) (k r places : ℕ) where
       marking-ready old size =
           let few = enough (headerOf x) a (x .n) (meaning x a .yes (passed .0) .room) .few in
           rw (size, le-leb (x .n) 65536 few, eq-eqb (x .bits) 4 (at-four x (passed .1)))
-          (query-rotatable x a (passed .0) (ltb 0 (x .live)) q (passed .3))
+          (query-rotatable x a (passed .0) q (passed .3))
 
       -- after marking, and after `hits::list` by these marks
       module _ (old marks : List ℕ) (size : length old ≡ 65536) (n : ℕ) (wanted : n ≡ many)
@@ -236,7 +226,7 @@ module _ (x : Index) (a : Arrays) (q : Query) (k r places : ℕ) where
         can = ready (x .n) (x .bits) (x .«working_dim») (length (q .vector))
 
         yes : can ≡ true
-        yes = is-ready x a (passed .0) (ltb 0 (x .live)) q (passed .3)
+        yes = is-ready x a (passed .0) q (passed .3)
 
         answers : result x a (unless (when (nanFound marks marks-set) 12) (hits (candidateHits marks marks-set))) ≡ call x a (Step.searchCascade q k r places)
         unfolding firstOf

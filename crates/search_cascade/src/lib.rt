@@ -24,7 +24,7 @@ fn is_enabled(index: Index) -> bool
     false
 }
 
-// The refusal of a cascade before any score: 13 of the index, 13 of the places, 11, 1, 2, 3, and 10 where a slot is live; 0 for none.
+// The refusal of a cascade before any score: 13 of the index, 13 of the places, 11, 1, 2, 3; 0 for none.
 fn cascade_fault(
     index: Index,
     codes: &[u8],
@@ -64,7 +64,7 @@ fn cascade_fault(
     if !is_enabled(index) {
         return 11;
     }
-    score_slot::query_fault(index, 0 < index.live, query)
+    vectors::vector_fault(index.dim, index.working_dim, query)
 }
 
 // ---- the candidates
@@ -96,7 +96,7 @@ fn no_marks() -> [u8; 65536] {
 // ---- the call
 
 // Writes the chosen candidates' numbers and scores to the first places of `slots` and `scores`, and answers how many they are.
-// Refused by 13, 11, 1, 2, 3, 10 and 12 in this order, 12 over the candidates only.
+// Refused by 13, 11, 1, 2, 3 and 12 in this order, 12 over the candidates only.
 pub fn search_cascade(
     index: Index,
     codes: &[u8],

@@ -7,7 +7,6 @@ use Prim.Native.Nat.{ℕ, _-_, _≤_, _<_, min, max}
 use native.Mathlib.Nat.{sub-zero}
 use native.Mathlib.Omega.{arith}
 use lib.ListN.{length, take, length-map}
-use lib.Dec.{ltb}
 use lib.Ieee.{Float}
 use borrow.Author.Tests.{le-leb}
 use Rattle.lists.specs.Lists.{zipWith, over}
@@ -108,7 +107,7 @@ module _ (x : Index) (a : Arrays) (q : Query) (k places : ℕ) where
     few = omega (arith, wide, chosen-length x a q k places fits, chosen-few x a q k places accepted)
 
     yes : can ≡ true
-    yes = is-ready x a fits (ltb 0 (x .live)) q (searched-query x a q k places accepted)
+    yes = is-ready x a fits q (searched-query x a q k places accepted)
 
     abbrev given : Bool → Listed
     given b = listed (scores (headerOf x) a q) (a .alive) (x .n) can k room yes b

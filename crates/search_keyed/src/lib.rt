@@ -58,7 +58,7 @@ fn name_hits(
 }
 
 // Writes the keys and scores to the first places of `names` and `scores`, and answers how many they are: fewer than k where hits have no key or a key twice.
-// Refused by 13, 1, 2, 3, 10 and 12 in this order: the result needs as many places as in a search, and a slot without a key counts for 12.
+// Refused by 13, 1, 2, 3 and 12 in this order: the result needs as many places as in a search, and a slot without a key counts for 12.
 pub fn search_keyed(
     index: Index,
     codes: &[u8],

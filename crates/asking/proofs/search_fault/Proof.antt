@@ -10,12 +10,12 @@ places-fault-requires c κs = tt
 returns : tie.Need-returns
 returns c = search-places _ _ _ _ _ _ (c .before .places-fault .ensures) (c .if1 .taken)
 
-query-fault-requires : tie.Need-query-fault-requires
-query-fault-requires c κs = tt
+vector-fault-requires : tie.Need-vector-fault-requires
+vector-fault-requires c κs = tt
 
 returns-2 : tie.Need-returns-2
-returns-2 c = search-query _ _ _ _ _ _ (sym (c .before .before .if1 .left) ∙ c .before .before .before .places-fault .ensures) (c .query-fault .ensures)
+returns-2 c = search-query _ _ _ _ _ _ (sym (c .before .if1 .left) ∙ c .before .before .places-fault .ensures) (c .vector-fault .ensures)
 
 pub search-fault-spec : {M : Type 1} → statement M
 search-fault-spec =
-    tie.close (tie.spec places-fault-requires returns query-fault-requires returns-2)
+    tie.close (tie.spec places-fault-requires returns vector-fault-requires returns-2)

@@ -19,14 +19,14 @@ returns-2 c =
     fault-cascade _ _ _ _ _ 0 (sym (c .before .before .if1 .left) ∙ c .before .before .before .places-fault .ensures)
     (says-no (c .before .is-enabled .ensures) (c .if2 .taken))
 
-query-fault-requires : tie.Need-query-fault-requires
-query-fault-requires c κs = tt
+vector-fault-requires : tie.Need-vector-fault-requires
+vector-fault-requires c κs = tt
 
 returns-3 : tie.Need-returns-3
 returns-3 c =
-    let tests = c .before .before .before in
+    let tests = c .before .before in
     fault-query _ _ _ _ _ _ (sym (tests .before .if1 .left) ∙ tests .before .before .places-fault .ensures)
-    (says-yes (tests .is-enabled .ensures) (c .before .before .if2 .left)) (c .query-fault .ensures)
+    (says-yes (tests .is-enabled .ensures) (c .before .if2 .left)) (c .vector-fault .ensures)
 
 pub cascade-fault-spec : {M : Type 1} → statement M
 cascade-fault-spec =
@@ -36,5 +36,5 @@ cascade-fault-spec =
     returns
     is-enabled-requires
     returns-2
-    query-fault-requires
+    vector-fault-requires
     returns-3)

@@ -1,2 +1,0 @@
--- What scoring asks of a query before any score.
-pub mod Query
