@@ -464,12 +464,12 @@ impl Driver {
         if nan {
             return lacks(12);
         }
-        let ours = ours();
+        let (theirs, ours) = (theirs(&self.index), ours());
         if has_minus_zero(scores) {
             return Answer::Outside(Reason::MinusZero, ours);
         }
-        assert_eq!(theirs(&self.index), ours, "the Rust's choice of slots is not document 01's");
-        Answer::Rust(ours)
+        assert_eq!(theirs, ours, "the Rust's choice of slots is not document 01's");
+        Answer::Rust(theirs)
     }
 
     fn search_cascade(&self, k: usize, r: usize, places: usize, query: &[f32]) -> Answer {
