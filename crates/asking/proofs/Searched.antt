@@ -21,6 +21,7 @@ use Rattle.index.specs.Fit.{fit}
 use Rattle.index.specs.Step.{Query, Op, Answer, refused, firstOf, when, unless, Cell, liveFrom, Hit, shortResult, searched, answered, step}
 use Rattle.index.specs.Call.{call}
 use Rattle.index.specs.Answers.{result}
+use Rattle.index.proofs.Kept.{first-refused}
 use Rattle.index.proofs.Calls.{call-misfit, call-answered}
 use Rattle.fit.proofs.Meaning.{meaning}
 use Rattle.fit.proofs.Rooms.{enough}
@@ -143,14 +144,10 @@ module _ (x : Index) (a : Arrays) (q : Query) (k places : ℕ) where
     unfolding searchFault placesFault firstOf
     search-refused n f some = go (fit x a) refl
       where
-        first : (m w : ℕ) → (m ≡ 0 → ⊥) → shownBy x a q k show (firstOf (m ∷ w ∷ [])) ≡ refused m
-        first zero w s = absurd (s refl)
-        first (suc m) w s = refl
-
         go : (b : Bool) → fit x a ≡ b → result x a (refused n) ≡ call x a op
         go true e =
             let w = when (liveNan x a q) 12 in
-            by-tests e (refused n) (ap (λ (m : ℕ). shownBy x a q k show (firstOf (m ∷ w ∷ []))) (sym f) ∙ first n w some)
+            by-tests e (refused n) (ap (λ (m : ℕ). shownBy x a q k show (firstOf (m ∷ w ∷ []))) (sym f) ∙ first-refused n w _ some)
         go false e = ap (λ (m : ℕ). result x a (refused m)) (f ∙ rw e refl) ∙ sym (call-misfit x a op e)
 
     pub search-listed : searchFault x a q k places ≡ 0 → result x a (shownBy x a q k show (when (liveNan x a q) 12)) ≡ call x a op

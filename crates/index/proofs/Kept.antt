@@ -18,7 +18,7 @@ use Rattle.index.specs.Arrays.{Arrays}
 use Rattle.index.specs.State.{Mark, dead, unkeyed, keyed, Slot, State, live, headerOf, capacity, stateOf, newSlot, withMark, withBits}
 use Rattle.index.specs.Fit.{fit}
 use Rattle.index.specs.Codec.{encoded}
-use Rattle.index.specs.Step.{Op, setBits, add, addKeyed, addMulti, relabel, remove, removeAt, keyOf, contains, slotOf, enable, score, search, searchKeyed, searchCascade, compact, fileLength, write, Item, Answer, done, flag, slot, firstOf, when, Cell, liveFrom, holds, holdsAt, numberWhere, slotHolding, heldBy, isHeld, onMark, relabelled, gapFilled, positionOf, overwritten, oneMore, rising, compacted, Outcome, answered, withSlots, guarded, appended, remarked, widthSet, step}
+use Rattle.index.specs.Step.{Op, setBits, add, addKeyed, addMulti, relabel, remove, removeAt, keyOf, contains, slotOf, enable, score, search, searchKeyed, searchCascade, compact, fileLength, write, Item, Answer, refused, done, flag, slot, firstOf, when, unless, Cell, liveFrom, holds, holdsAt, numberWhere, slotHolding, heldBy, isHeld, onMark, relabelled, gapFilled, positionOf, overwritten, oneMore, rising, compacted, Outcome, answered, withSlots, guarded, appended, remarked, widthSet, step}
 use Rattle.index.specs.Call.{call}
 use Rattle.index.specs.Sound.{Shaped, AllShaped, marks, OnceEach, Ranged, Sound}
 use Rattle.index.proofs.Overlay.{SameLengths, overlay-lengths, read-back}
@@ -29,7 +29,12 @@ use Rattle.index.proofs.Refusals.{either-way}
 use Rattle.index.proofs.Encoded.{encoded-shaped}
 use Rattle.index.proofs.Changes.{once-unkeyed, once-keyed, once-removed, once-relabelled-same, once-relabelled, once-filled, once-compacted}
 
--- ---- what an accepted call has passed
+-- ---- what a refused call has met, and what an accepted one has passed
+
+pub first-refused : (n later : ℕ) (a : Answer) → (n ≡ 0 → ⊥) → unless (firstOf (n ∷ later ∷ [])) a ≡ refused n
+unfolding firstOf
+first-refused zero later a given = absurd (given refl)
+first-refused (suc n) later a given = refl
 
 pub first-none : (n : ℕ) (ns : List ℕ) → firstOf (n ∷ ns) ≡ 0 → (n ≡ 0) × (firstOf ns ≡ 0)
 unfolding firstOf

@@ -119,7 +119,7 @@ hitOf h q c = record { number = c .number; key = keyOfMark (c .slot .mark); scor
 abbrev pub rank : Hit → ℕ
 rank x = orderNumber (x .score)
 
--- 1, 2, 3; 12, "a score to be ranked .. is NaN"
+-- 1, 2, 3; 12, "a score to be ranked .. is NaN". No size is turned down: 02, Req 05, OneTrait.antt.
 unfoldable pub queryRefusal : Header → Query → List Hit → ℕ
 queryRefusal h q xs = firstOf (fault h (q .vector) ∷ when (any (λ x. isNan (x .score)) xs) 12 ∷ [])
 

@@ -1,4 +1,4 @@
--- One place of a tabulation changed, the entries of a list of known length, and the entries of two lists zipped.
+-- One place of a tabulation changed, the entries of a list of known length, an entry that may not be there, and the entries of two lists zipped.
 use mathlib.Core.Path.{_≡_, refl, sym, ap, _∙_}
 use mathlib.Core.Logic.{_≢_}
 use mathlib.Core.List.{List, [], _∷_, map}

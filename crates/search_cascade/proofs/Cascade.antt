@@ -24,6 +24,7 @@ use Rattle.index.specs.Step.{Hit, Query, Answer, refused, hits, firstOf, when, 
 use Rattle.index.specs.Step as Step
 use Rattle.index.specs.Call.{call}
 use Rattle.index.specs.Answers.{result, found}
+use Rattle.index.proofs.Kept.{first-refused}
 use Rattle.index.proofs.Calls.{call-misfit, call-answered}
 use Rattle.fit.proofs.Meaning.{meaning}
 use Rattle.fit.proofs.Rooms.{enough}
@@ -156,10 +157,6 @@ module _ (x : Index) (a : Arrays) (q : Query) (k r places : ℕ) where
     unfolding cascadeFault placesFault firstOf step
     cascade-refused some = (go (fit x a) (enabled x) refl refl, (refl, refl))
       where
-        first : (m w : ℕ) (o : Answer) → (m ≡ 0 → ⊥) → unless (firstOf (m ∷ w ∷ [])) o ≡ refused m
-        first zero w o s = absurd (s refl)
-        first (suc m) w o s = refl
-
         marks : List ℕ
         marks = over (nearMarks (distanceAt (headerOf x) (a .codes) q) (a .alive) (x .n) many) []
 
@@ -170,7 +167,7 @@ module _ (x : Index) (a : Arrays) (q : Query) (k r places : ℕ) where
         go true true e on =
             by-tests marks are e on (refused f)
             (ap (λ (m : ℕ). unless (firstOf (m ∷ when (nanFound marks are) 12 ∷ [])) (hits (candidateHits marks are))) (sym is)
-            ∙ first f (when (nanFound marks are) 12) (hits (candidateHits marks are)) some)
+            ∙ first-refused f (when (nanFound marks are) 12) (hits (candidateHits marks are)) some)
         go true false e off =
             sym (call-answered x a (Step.searchCascade q k r places) e (refused f) (ap (answered (stateOf x a)) (idle-answer e off ∙ ap refused (sym is))))
         go false c e o = ap (λ (m : ℕ). result x a (refused m)) (is ∙ rw e refl) ∙ sym (call-misfit x a (Step.searchCascade q k r places) e)
