@@ -1,4 +1,6 @@
 // Adding a vector, for C and Rust. `fields` are the words of the record (crate words); the slot goes to the first place of `answer`.
+#![tactic(auto)]
+
 ghost use Rattle.std.specs.Prelude.{◌≡◌};
 ghost use Rattle.index.specs.Arrays.{lent};
 ghost use Rattle.index.specs.Step as Step;

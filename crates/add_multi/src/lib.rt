@@ -1,4 +1,6 @@
 // Adding one more vector under a key: `add_keyed_multi` of vecq's store.rs.
+#![tactic(auto)]
+
 ghost use Rattle.std.specs.Prelude.{◌≡◌};
 ghost use Rattle.index.specs.Arrays.{lent};
 ghost use Rattle.index.specs.Step as Step;

@@ -1,5 +1,7 @@
 // Answers as words of 64 bits, for C and Rust, where calls of several libraries have them: the eight fields of the record are the first eight words of one lent slice (crate
 // words), an answer of one word is the first of another.
+#![tactic(auto)]
+
 ghost use Rattle.std.specs.Prelude.{◌≡◌, [], ◌∷◌, ◌≤◌, length};
 ghost use Rattle.lists.specs.Lists.{over};
 ghost use Rattle.words.specs.Words.{record_words, words_of};

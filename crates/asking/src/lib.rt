@@ -1,4 +1,6 @@
 // The first tests of every search (document 01): 13 of the index, then 13 of the result's places.
+#![tactic(auto)]
+
 ghost use Rattle.std.specs.Prelude.{◌≡◌, min, max};
 ghost use Rattle.index.specs.Arrays.{lent};
 ghost use Rattle.index.specs.Step.{query_of};

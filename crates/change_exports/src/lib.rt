@@ -1,5 +1,7 @@
 // Relabelling and the two removals, for C and Rust. `fields` are the words of the record (crate words); 1 for yes or 0 for no goes to the first place
 // of `answer`. Where it is no, `fields` stays as it was.
+#![tactic(auto)]
+
 ghost use Rattle.std.specs.Prelude.{◌≡◌};
 ghost use Rattle.index.specs.Arrays.{lent};
 ghost use Rattle.index.specs.Step as Step;

@@ -1,4 +1,6 @@
 // The codes of a vector, packed into a block of bytes from the lowest bit on: read, and a slot's block found among those of all slots.
+#![tactic(auto)]
+
 ghost use Rattle.std.specs.Prelude.{◌≡◌, ◌+◌, ◌*◌, ◌/◌, ◌%◌, ◌^◌, ◌≤◌, leb, get_or};
 ghost use Rattle.codes.specs.Packing.{bytes_per_vector, code_at};
 ghost use Rattle.codes.specs.Writing.{is_width, at_width};

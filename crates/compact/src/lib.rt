@@ -1,6 +1,8 @@
 // Compaction: the live slots move down over the dead ones, in slot order, and held order rises again.
 //
 // Held order is written anew at the end, so until then its first places keep the numbers of the slots that stay: the call needs no list of its own.
+#![tactic(auto)]
+
 ghost use Rattle.std.specs.Prelude.{◌≡◌, false, cond, ◌+◌, ◌*◌, ◌/◌, ◌≤◌, ◌<◌, length, take, drop};
 ghost use Rattle.lists.specs.Lists.{tab, over, splice};
 ghost use Rattle.index.specs.Arrays.{lent};

@@ -1,4 +1,6 @@
 // Compaction, for C and Rust. `fields` are the words of the record (crate words).
+#![tactic(auto)]
+
 ghost use Rattle.std.specs.Prelude.{◌≡◌, []};
 ghost use Rattle.index.specs.Arrays.{lent};
 ghost use Rattle.index.specs.Step.{compact};

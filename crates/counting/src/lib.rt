@@ -1,4 +1,6 @@
 // The code of a value over any boundaries, by counting those below it.
+#![tactic(auto)]
+
 ghost use Rattle.std.specs.Prelude.{◌≡◌, cond};
 ghost use Rattle.std.specs.Float.Ieee.{lt};
 ghost use Rattle.lloyd.specs.Quantizer.{quantized};

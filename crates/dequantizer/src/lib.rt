@@ -1,4 +1,6 @@
 // The centroids of codes: in any table that is lent, and at a width, by the tables of lloyd.
+#![tactic(auto)]
+
 ghost use Rattle.std.specs.Prelude.{◌≡◌};
 ghost use Rattle.lloyd.specs.Tables.{centroids_of};
 ghost use Rattle.lloyd.specs.Quantizer.{centroid_at};

@@ -1,5 +1,7 @@
 // The keyed list (document 01, store.rs: "`search_keyed` drops unkeyed hits and repeats"). A place of the list is written if it has a key that no lower place
 // has, by the entries of the crate previous.
+#![tactic(auto)]
+
 ghost use Rattle.std.specs.Prelude.{◌≡◌, map, ◌≤◌, ◌<◌, min, length, get_or};
 ghost use Rattle.std.specs.Float.{nan};
 ghost use Rattle.lists.specs.Lists.{over};

@@ -1,4 +1,6 @@
 // From a vector to the codes and scales that a slot stores: `encode_into` of vecq's store.rs. Tables are lent: any table will do.
+#![tactic(auto)]
+
 ghost use Rattle.std.specs.Prelude.{◌≡◌, true, ◌≤◌, length};
 ghost use Rattle.pattern.specs.Binary32.{sum_squares, larger};
 ghost use Rattle.codes.specs.Packing.{packed};

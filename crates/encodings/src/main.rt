@@ -17,6 +17,8 @@
 // WIDTH is 4, 5 or 6, RESIDUAL is 0 or 1, DIM is at most 4,096 and WORKING at most DIM. Scales are patterns, answered in eight digits. A
 // vector has at most 4,096 entries and a block at most 4,096 bytes. In the place of each answer but the last may stand `refused N`, with
 // document 01's number, in decimal. Tables are those of the width.
+#![tactic(auto)]
+
 ghost use Rattle.std.specs.Prelude.{◌≡◌, ◌≤◌, ◌<◌, length};
 
 use encode::{Header, Scales};

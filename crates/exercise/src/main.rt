@@ -11,6 +11,8 @@
 //   search K PLACES VEC, search_keyed K PLACES VEC, search_cascade K R PLACES VEC
 //   length, write PLACES, read BYTES                         the file's length, the file, an index from a file
 //   dump                                                     the record and the arrays
+#![tactic(auto)]
+
 ghost use Rattle.std.specs.Prelude.{◌≡◌, cond, ◌-◌, ◌≤◌};
 
 use index::{Added, Asked, Changed, Found, Held, Index, Keyed, Made, Written};

@@ -1,4 +1,6 @@
 // Refusal 13's test of the index: whether a record and its lent arrays fit.
+#![tactic(auto)]
+
 ghost use Rattle.std.specs.Prelude.{◌≡◌, false, ℕ, ◌≤◌, ◌<◌, length, get_or};
 ghost use Rattle.index.specs.Arrays.{lent};
 ghost use Rattle.index.specs.Fit.{fit};

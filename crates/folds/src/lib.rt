@@ -1,4 +1,6 @@
 // Running sums folded to one (store.rs, the scalar kernels).
+#![tactic(auto)]
+
 ghost use Rattle.std.specs.Prelude.{◌≡◌};
 ghost use Rattle.score.specs.Lanes.{bracketed};
 

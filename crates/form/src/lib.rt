@@ -1,4 +1,6 @@
 // The versions of the byte form: what each has, and which one an index is written as. No other crate compares version numbers.
+#![tactic(auto)]
+
 ghost use Rattle.std.specs.Prelude.{◌≡◌, List};
 ghost use Rattle.index.specs.State.{header_of};
 ghost use Rattle.index.specs.Form.{form_of};

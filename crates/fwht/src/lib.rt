@@ -1,4 +1,6 @@
 // The fast Walsh-Hadamard transform of vecq's rhdh.rs, in place.
+#![tactic(auto)]
+
 ghost use Rattle.std.specs.Prelude.{◌≡◌, ◌+◌, ◌*◌, ◌^◌, ◌<◌, length};
 ghost use Rattle.padding.specs.Padded.{exponent};
 ghost use Rattle.fwht.specs.InPlace.{Blocks};

@@ -1,5 +1,7 @@
 // Halves: binary32 patterns written as binary16 patterns, and these read as binary32 patterns. No float takes part, since a float here has one NaN
 // only, and a NaN's sign and fraction are to be kept.
+#![tactic(auto)]
+
 ghost use Rattle.std.specs.Prelude.{◌≡◌, ◌^◌, ◌<◌};
 ghost use Rattle.std.specs.Float.Ieee.Nearest.{closest};
 ghost use Rattle.half.specs.Half.{Narrowed, Widened};

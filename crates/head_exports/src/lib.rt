@@ -1,4 +1,6 @@
 // What the head of a file states, for C and Rust: a client sizes the arrays that it lends by this before it reads the file.
+#![tactic(auto)]
+
 ghost use Rattle.std.specs.Prelude.{◌≡◌, ◌≤◌, length};
 ghost use Rattle.lists.specs.Lists.{over};
 ghost use Rattle.words.specs.Put.{put};

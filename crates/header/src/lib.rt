@@ -1,4 +1,6 @@
 // The head of a file: its fields, and the tests of the first 24 or 25 bytes.
+#![tactic(auto)]
+
 ghost use Rattle.std.specs.Prelude.{◌≡◌};
 ghost use Rattle.index.specs.Form.{stages_at};
 ghost use Rattle.index.specs.Read.{version_in, form_in, dim_in, count_in, working_field, header_in, stages_in, head_fault};

@@ -1,5 +1,7 @@
 // The slots that hold a key, found by scanning (document 01, "keys found by scanning").
 // An entry past the end of its array counts as none: no key, word 0, position 0.
+#![tactic(auto)]
+
 ghost use Rattle.std.specs.Prelude.{◌≡◌, min, get_or};
 ghost use Rattle.held.specs.Held.{slot_holds, held_count, held_slot};
 

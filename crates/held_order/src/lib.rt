@@ -1,5 +1,7 @@
 // Rising held order (document 01, compaction): each key's slots hold 0, 1, 2 in slot order. A slot holds the position after that of the last lower slot with
 // its key, by the entries of the crate previous.
+#![tactic(auto)]
+
 ghost use Rattle.std.specs.Prelude.{◌≡◌, ℕ, suc, ◌≤◌, ◌<◌, length, get_or};
 ghost use Rattle.lists.specs.Lists.{tab, below};
 ghost use Rattle.held_order.specs.Restored.{rising_position, restored};

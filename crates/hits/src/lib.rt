@@ -1,6 +1,8 @@
 // The hits among marked slots: a slot takes part where its mark is not 0. Searches mark the live slots, cascades the nearest of them.
 //
 // Scores and order numbers of all slots stand in two working arrays, and no place is written before every score is known to be no NaN.
+#![tactic(auto)]
+
 ghost use Rattle.std.specs.Prelude.{◌≡◌, true, map, ◌≤◌, ◌<◌, min, length, get_or};
 ghost use Rattle.std.specs.Float.{nan};
 ghost use Rattle.pattern.specs.Binary32.{+0};

@@ -1,6 +1,8 @@
 // The record of an index, the answers of its calls, what a version of a file has, and the specification that all of them cite (specs/).
 
 // What the index is beside its lent arrays. It goes in by value and comes back in the answer.
+#![tactic(auto)]
+
 #[derive(Drop)]
 pub struct Index {
     pub dim: usize,

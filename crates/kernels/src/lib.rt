@@ -1,5 +1,7 @@
 // The scores of stages (store.rs, the scalar kernels). A prepared query is rotated and has the padded size; every float operation
 // stands where the Rust has it.
+#![tactic(auto)]
+
 ghost use Rattle.std.specs.Prelude.{◌≡◌, ◌+◌, ◌*◌, ◌/◌, ◌%◌, ◌^◌, ◌≤◌, ◌<◌, length, take, drop, get_or, set};
 ghost use Rattle.std.specs.Float.{nan};
 ghost use Rattle.pattern.specs.Binary32.{◌⊕◌, sum_of};

@@ -1,4 +1,6 @@
 // The questions about keys, for C and Rust. `fields` are the words of the record (crate words); the answer goes to the first places of `answer`.
+#![tactic(auto)]
+
 ghost use Rattle.std.specs.Prelude.{◌≡◌, [], ◌∷◌};
 ghost use Rattle.index.specs.Arrays.{lent};
 ghost use Rattle.index.specs.Step.{key_of, contains, slot_of};

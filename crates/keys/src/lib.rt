@@ -1,5 +1,7 @@
 // The key questions: the key of a slot, and the slots of a key, found by scanning (document 01). They change nothing.
 // Where record and arrays fit a slot with a key is live, so no live mark is read.
+#![tactic(auto)]
+
 ghost use Rattle.std.specs.Prelude.{◌≡◌};
 ghost use Rattle.index.specs.Arrays.{lent};
 ghost use Rattle.index.specs.Step.{key_of, contains, slot_of};

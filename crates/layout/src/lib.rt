@@ -1,4 +1,6 @@
 // The layout of a file: where it ends, and how long the file of an index is.
+#![tactic(auto)]
+
 ghost use Rattle.std.specs.Prelude.{◌≡◌, ◌≤◌};
 ghost use Rattle.index.specs.Arrays.{lent};
 ghost use Rattle.index.specs.Form.{form_of, stage_size, keys_at, end_at};

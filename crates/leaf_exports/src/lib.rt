@@ -1,5 +1,7 @@
 // The leaves for C and Rust, each under a plain name and with the contract of the function that it passes on to. The drivers of
 // tests/exhaustive link them.
+#![tactic(auto)]
+
 ghost use Rattle.std.specs.Prelude.{◌≡◌};
 ghost use Rattle.half.specs.Half.{Narrowed, Widened};
 ghost use Rattle.sqrt.specs.Root.{SquareRoot};

@@ -17,6 +17,8 @@
 // For a half that is finite `narrows` has six answers: at the pattern p that it reads as, at p - 1 and p + 1, and at the pattern m
 // of the value midway to the next half of its sign, m - 1 and m + 1. (Past the largest finite half, 65,504, the next is taken to be
 // 65,536.) For an infinity it has those at p, p - 1 and p + 1, for a NaN the one at p. Patterns are counted modulo 2^32.
+#![tactic(auto)]
+
 ghost use Rattle.std.specs.Prelude.{◌<◌};
 
 use rhdh::Rhdh;

@@ -5,6 +5,8 @@
 //         .. lines::line(buf, cursor) ..
 //         cursor = lines::next_line(buf, cursor);
 //     }
+#![tactic(auto)]
+
 ghost use Rattle.std.specs.Prelude.{◌≡◌, ◌+◌, ◌≤◌, ◌<◌, length, take};
 ghost use Rattle.lines.specs.Lines.{Within, NoNewline, clipped, part_of, passed_over, at_end, Handed};
 

@@ -1,4 +1,6 @@
 // Prints the listing of a file of the byte form, which it reads on standard input. What a listing is, and what holds of it, stands in `listed`.
+#![tactic(auto)]
+
 ghost use Rattle.std.specs.Prelude.{◌≡◌, length, take};
 ghost use Rattle.io.specs.Counts.{IsPrefixLen};
 ghost use Rattle.listed.specs.Listing.{listing_text};

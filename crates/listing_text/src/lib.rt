@@ -8,6 +8,7 @@
 //
 // with the key in decimal, `-` where there is none, and the first scale as a half in four digits of upper-case hexadecimal. The text of a refused
 // file is its number alone.
+#![tactic(auto)]
 ghost use Rattle.std.specs.Prelude.{◌≡◌, [], ◌∷◌, ◌++◌, ℕ, ◌%◌, ◌≤◌, ◌<◌, length};
 ghost use Rattle.print.specs.Printed.{Prints};
 ghost use Rattle.slot_keys.specs.Has.{key_at};

@@ -1,1 +1,2 @@
 // General definitions and laws on lists: specs/ and proofs/. There is no code.
+#![tactic(auto)]

@@ -1,4 +1,6 @@
 // The numbers that the bytes of a file make, the lowest byte first.
+#![tactic(auto)]
+
 ghost use Rattle.std.specs.Prelude.{◌≡◌, ◌^◌, ◌≤◌, ◌<◌, get_or, drop};
 ghost use Rattle.index.specs.Read.{little_endian};
 

@@ -1,4 +1,6 @@
 // The tables of the Lloyd-Max quantizer for N(0,1) at 4, 5 and 6 bits: levels (centroids), and the boundaries between them.
+#![tactic(auto)]
+
 pub mod tables;
 
 ghost use Rattle.std.specs.Prelude.{◌≡◌, [], ◌≤◌, length};

@@ -1,4 +1,6 @@
 // Making an index. None of these calls writes a lent array.
+#![tactic(auto)]
+
 ghost use Rattle.std.specs.Prelude.{◌≡◌, true, false, cond, ◌&&◌};
 ghost use Rattle.index.specs.Arrays.{lent};
 ghost use Rattle.index.specs.Fit as Fit;

@@ -1,4 +1,6 @@
 // Making an index, for C and Rust. `fields` are the words of the record (crate words): the calls write them, and no other lent slice. With it the number of the raw signatures.
+#![tactic(auto)]
+
 ghost use Rattle.std.specs.Prelude.{◌≡◌, true, false, []};
 ghost use Rattle.index.specs.Arrays.{lent};
 ghost use Rattle.index.specs.Make.{new_header};

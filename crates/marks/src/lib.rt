@@ -1,4 +1,6 @@
 // Live marks, one a slot: 1 for a live slot, 0 for a dead one. They are read and written here alone.
+#![tactic(auto)]
+
 ghost use Rattle.std.specs.Prelude.{◌≡◌, min, length, get_or, set};
 ghost use Rattle.lists.specs.Lists.{tab, over};
 ghost use Rattle.lists.specs.Keep.{bit};

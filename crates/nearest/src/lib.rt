@@ -2,6 +2,8 @@
 //
 // The limit, the distance of the last candidate, is found by counting how many slots have each distance. The candidates are the slots below
 // it, and the first at it that make them r.
+#![tactic(auto)]
+
 mod distances;
 
 ghost use Rattle.std.specs.Prelude.{◌≡◌, cond, ◌&&◌, ◌||◌, ◌≤◌, ◌<◌, ltb, eqb, length};

@@ -1,5 +1,7 @@
 // Numbers in digits, printed as `print` does it: what has no room is cut off, and each answers the place after what it printed.
 // No function here asks anything of its caller.
+#![tactic(auto)]
+
 ghost use Rattle.std.specs.Prelude.{min, max};
 ghost use Rattle.print.specs.Printed.{Prints};
 ghost use Rattle.numerals.specs.Numerals.{decimal_text, hexadecimal_text};

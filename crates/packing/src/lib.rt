@@ -1,4 +1,6 @@
 // The codes of a vector written into its block of bytes.
+#![tactic(auto)]
+
 ghost use Rattle.std.specs.Prelude.{◌≡◌, true, ◌-◌, ◌*◌, ◌/◌, ◌^◌, ◌<◌, ◌≤◌, length, set, take};
 ghost use Rattle.lists.specs.Lists.{over};
 ghost use Rattle.digits.specs.Digits.{number, digits, Below, digits_below};

@@ -1,4 +1,6 @@
 // The padded dimension of vecq's rhdh.rs, the next power of two, and whether there are places for it.
+#![tactic(auto)]
+
 ghost use Rattle.std.specs.Prelude.{◌≡◌};
 ghost use Rattle.padding.specs.Padded.{padded_dim};
 ghost use Rattle.padding.specs.Rotatable.{rotatable};

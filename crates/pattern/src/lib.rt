@@ -1,5 +1,7 @@
 // A binary32 and its pattern, one from the other, at every value and every pattern. A float holds one NaN without sign or fraction,
 // so a value that has to keep a NaN's pattern stays a pattern.
+#![tactic(auto)]
+
 ghost use Rattle.std.specs.Prelude.{◌≡◌};
 ghost use Rattle.std.specs.Float.{binary32};
 ghost use Rattle.std.specs.Float.Ieee.{of_bits, to_bits};

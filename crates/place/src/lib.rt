@@ -1,4 +1,6 @@
 // One slot written: what the three adding calls have in common.
+#![tactic(auto)]
+
 ghost use Rattle.std.specs.Prelude.{◌≡◌, ◌≤◌, ◌<◌, length, set};
 ghost use Rattle.lloyd.specs.Tables.{levels_of};
 ghost use Rattle.encode.specs.Calls.{stages, encoded_into};

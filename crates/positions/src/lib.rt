@@ -1,5 +1,7 @@
 // Refusal 13's test of the positions: each key's t slots hold the positions 0 to t - 1 once each. Where keys and positions rise with the slots, or there are none, one pass
 // shows it; else a tree does.
+#![tactic(auto)]
+
 mod tree;
 
 ghost use Rattle.std.specs.Prelude.{◌≡◌, true, false, cond, suc, ◌+◌, ◌^◌, ◌≤◌, ◌<◌, length, get_or};

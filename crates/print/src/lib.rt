@@ -1,5 +1,7 @@
 // What the programs over standard input print, into a lent buffer, from a place on. What has no room is cut off; each answers the place after
 // what it printed. No function here asks anything of its caller.
+#![tactic(auto)]
+
 ghost use Rattle.std.specs.Prelude.{◌≡◌, [], ◌∷◌, min};
 ghost use Rattle.std.proofs.lemmas.List.Edits.{sets};
 ghost use Rattle.print.specs.Printed.{Prints};

@@ -1,4 +1,6 @@
 // The codes of values: at a width, by the tables of lloyd, and over any boundaries that are lent.
+#![tactic(auto)]
+
 ghost use Rattle.std.specs.Prelude.{◌≡◌, map, true, ℕ, ◌≤◌, length};
 ghost use Rattle.lists.specs.Lists.{over};
 ghost use Rattle.pattern.specs.Binary32.{◌⊗◌};

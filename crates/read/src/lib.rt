@@ -1,4 +1,6 @@
 // Reading: an index from the bytes of a file. All tests come first; then each block is written over the first places of its arrays.
+#![tactic(auto)]
+
 ghost use Rattle.std.specs.Prelude.{◌≡◌, true, false, cond, ℕ, ◌*◌, ◌≤◌, length, take, drop, get_or, set, ltb};
 ghost use Rattle.lists.specs.Lists.{tab, over};
 ghost use Rattle.index.specs.Arrays.{lent};

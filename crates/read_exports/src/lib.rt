@@ -1,4 +1,6 @@
 // Reading, for C and Rust. The words of the record (crate words) go to the first places of `fields`.
+#![tactic(auto)]
+
 ghost use Rattle.std.specs.Prelude.{◌≡◌, [], ◌∷◌};
 ghost use Rattle.index.specs.Arrays.{lent};
 ghost use Rattle.index.specs.Step.{first_of};

@@ -1,4 +1,6 @@
 // The two removals: the slots of a key, and one slot. They change marks, and no code. Keys are found by scanning.
+#![tactic(auto)]
+
 ghost use Rattle.std.specs.Prelude.{◌≡◌, cond, ◌&&◌, ◌-◌, ◌≤◌, ◌<◌, length, get_or, ltb};
 ghost use Rattle.index.specs.Arrays.{lent};
 ghost use Rattle.index.specs.Step as Step;

@@ -1,4 +1,6 @@
 // The randomized Hadamard transform of vecq's rhdh.rs: a vector, padded to a power of two, with signs from a seed, and transformed.
+#![tactic(auto)]
+
 ghost use Rattle.std.specs.Prelude.{◌≡◌, length, get_or};
 ghost use Rattle.padding.specs.Padded.{padded_dim};
 ghost use Rattle.pattern.specs.Binary32.{+0};

@@ -1,4 +1,6 @@
 // How many bytes a slot has of each stage, and how many slots the lent arrays hold.
+#![tactic(auto)]
+
 ghost use Rattle.std.specs.Prelude.{◌≡◌, min};
 ghost use Rattle.codes.specs.Writing.{at_width};
 ghost use Rattle.encode.specs.Header.{block_size};

@@ -1,5 +1,7 @@
 // Runs of numbers in hexadecimal, printed as `print` does it: what has no room is cut off, and each answers the place after what it printed.
 // No function here asks anything of its caller.
+#![tactic(auto)]
+
 ghost use Rattle.std.specs.Prelude.{◌≡◌, ◌<◌};
 ghost use Rattle.std.specs.Float.{binary32};
 ghost use Rattle.std.specs.Float.Ieee.{to_bits};

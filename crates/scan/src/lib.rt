@@ -3,6 +3,8 @@
 //
 // Two centroids are read at once, from a table of all pairs of codes. The running sums of a group of slots are stored, and folded in a
 // second loop: folded at once, they would not stay in vector registers.
+#![tactic(auto)]
+
 ghost use Rattle.std.specs.Prelude.{◌≡◌, true, cond, ◌||◌, ◌+◌, ◌-◌, ◌*◌, ◌/◌, ◌%◌, ◌^◌, ◌≤◌, ◌<◌, ltb, length, take, drop, get_or};
 ghost use Rattle.std.specs.Float.{nan, binary32};
 ghost use Rattle.std.specs.Float.Ieee.{of_bits};

@@ -1,4 +1,6 @@
 // The score of one slot under a query (document 01, store.rs, `score`). A dead slot is scored too, so no live mark is read but by the first test.
+#![tactic(auto)]
+
 ghost use Rattle.std.specs.Prelude.{◌≡◌, cond, true, ◌≤◌, length, get_or};
 ghost use Rattle.std.proofs.Math.Option.{none, some};
 ghost use Rattle.padding.specs.Rotatable.{rotatable};

@@ -1,4 +1,6 @@
 // Scores of slots under a prepared query (store.rs), and the number that orders them.
+#![tactic(auto)]
+
 ghost use Rattle.std.specs.Prelude.{◌≡◌};
 ghost use Rattle.std.proofs.Math.Option.{none, some};
 ghost use Rattle.codes.specs.Stage.{stage};

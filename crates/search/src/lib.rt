@@ -1,4 +1,6 @@
 // Search (document 01, store.rs): the live slots that score highest under a query, with their scores.
+#![tactic(auto)]
+
 ghost use Rattle.std.specs.Prelude.{◌≡◌, min, length};
 ghost use Rattle.index.specs.Arrays.{lent};
 ghost use Rattle.index.specs.Step as Step;

@@ -1,4 +1,6 @@
 // Search by cascade (document 01, store.rs): of the live slots only those nearest to the query by the codes' top two bits are scored.
+#![tactic(auto)]
+
 ghost use Rattle.std.specs.Prelude.{◌≡◌, min, length};
 ghost use Rattle.index.specs.Arrays.{lent};
 ghost use Rattle.index.specs.Step as Step;

@@ -1,4 +1,6 @@
 // The three searches, for C and Rust. `fields` are the words of the record (crate words); how many hits goes to the first place of `answer`.
+#![tactic(auto)]
+
 ghost use Rattle.std.specs.Prelude.{◌≡◌, min, length};
 ghost use Rattle.index.specs.Arrays.{lent};
 ghost use Rattle.index.specs.Step as Step;

@@ -1,4 +1,6 @@
 // Keyed search (document 01, store.rs): the keys of the live slots that score highest under a query, each once, with the score of its first hit.
+#![tactic(auto)]
+
 ghost use Rattle.std.specs.Prelude.{◌≡◌, map, ◌≤◌, min, length};
 ghost use Rattle.lists.specs.Lists.{over};
 ghost use Rattle.index.specs.Arrays.{lent};

@@ -1,4 +1,6 @@
 // The calls that set something of a made index: its code width, its cascade. Neither writes a lent array.
+#![tactic(auto)]
+
 ghost use Rattle.std.specs.Prelude.{◌≡◌};
 ghost use Rattle.index.specs.Arrays.{lent};
 ghost use Rattle.index.specs.Step.{set_bits, enable};

@@ -1,5 +1,7 @@
 // Setting the width of a made index and enabling its cascade, for C and Rust. `fields` are the words of the record (crate words): the calls write them, and no
 // other lent slice.
+#![tactic(auto)]
+
 ghost use Rattle.std.specs.Prelude.{◌≡◌, []};
 ghost use Rattle.index.specs.Arrays.{lent};
 ghost use Rattle.index.specs.Step.{set_bits, enable};

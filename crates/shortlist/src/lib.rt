@@ -2,6 +2,8 @@
 //
 // A number t is guessed. On the shortlist are the first n slots at or above t, and the later ones above t. Where these are n or more, T is t or
 // above, and no other slot can be chosen.
+#![tactic(auto)]
+
 ghost use Rattle.std.specs.Prelude.{◌≡◌, true, cond, map, ◌⊎◌, ◌+◌, ◌*◌, ◌<◌, ◌≤◌, max, length, get_or, set};
 ghost use Rattle.std.proofs.lemmas.List.Edits.{sets};
 ghost use Rattle.lists.specs.Lists.{over};

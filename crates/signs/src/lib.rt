@@ -1,4 +1,6 @@
 // The sign stream of vecq's rhdh.rs: the generator xorshift64*, a sign for each step, and the wrapping product that it takes.
+#![tactic(auto)]
+
 ghost use Rattle.std.specs.Prelude.{◌≡◌, ◌*◌, ◌%◌, ◌^◌, slice_index};
 ghost use Rattle.signs.specs.Signs.{start, next_state, output, sign};
 

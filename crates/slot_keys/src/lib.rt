@@ -1,5 +1,7 @@
 // The key of one slot.
 // An entry past the end of its array counts as none: no key, word 0.
+#![tactic(auto)]
+
 ghost use Rattle.std.specs.Prelude.{◌≡◌, false, get_or};
 ghost use Rattle.slot_keys.specs.Has.{slot_has};
 

@@ -1,4 +1,6 @@
 // The square root of a binary32, worked out on whole numbers: the binary32 nearest to the exact root.
+#![tactic(auto)]
+
 ghost use Rattle.std.specs.Prelude.{◌≡◌, ◌+◌, ◌*◌, ◌^◌, ◌<◌};
 ghost use Rattle.sqrt.specs.Root.{radicand, nearest_root, root_bits, SquareRoot};
 ghost use Rattle.sqrt.specs.Work.{Normal, Scaled, WholeRoot};

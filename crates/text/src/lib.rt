@@ -1,5 +1,7 @@
 // What the programs over standard input read, taken apart: the fields of a line, parted by single blanks.
 // No function here that others call asks anything of its caller.
+#![tactic(auto)]
+
 ghost use Rattle.std.specs.Prelude.{◌≡◌, [], ◌≤◌, length, take, drop, get_or};
 ghost use Rattle.text.specs.Fields.{fields, field_at, is_silent, FirstPlace};
 

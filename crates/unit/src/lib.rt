@@ -1,4 +1,6 @@
 // A vector over its norm and rotated, and a query prepared: what comes before the codes in `encode_into` and `prepare_query` of vecq's store.rs.
+#![tactic(auto)]
+
 ghost use Rattle.std.specs.Prelude.{◌≡◌, true, length};
 ghost use Rattle.padding.specs.Padded.{padded_dim};
 ghost use Rattle.rhdh.specs.Rotation.{applied};

@@ -1,5 +1,7 @@
 // What a field of a line says: a number, a vector or bytes in hexadecimal, each the whole of a field.
 // No function here that others call asks anything of its caller.
+#![tactic(auto)]
+
 ghost use Rattle.std.specs.Prelude.{◌≡◌, true, ◌+◌, ◌*◌, ◌^◌, ◌≤◌, ◌<◌, length};
 ghost use Rattle.lists.specs.Lists.{over};
 ghost use Rattle.text.specs.Fields.{field_at};

@@ -1,4 +1,6 @@
 // A vector before any rotation: its squares summed, the refusals that they call for, and its entries over a number.
+#![tactic(auto)]
+
 ghost use Rattle.std.specs.Prelude.{◌≡◌};
 ghost use Rattle.pattern.specs.Binary32.{sum_squares};
 ghost use Rattle.vectors.specs.Vectors.{sum_fault, vector_fault, divided};

@@ -1,4 +1,6 @@
 // The record as words of 64 bits, for C and Rust: its eight fields are the first eight words of a lent slice.
+#![tactic(auto)]
+
 ghost use Rattle.std.specs.Prelude.{◌≡◌};
 ghost use Rattle.words.specs.Words as Words;
 

@@ -1,4 +1,6 @@
 // Writing: the byte form of an index, block after block, into a lent file. One pass over the slots in use for each block.
+#![tactic(auto)]
+
 ghost use Rattle.std.specs.Prelude.{◌≡◌, cond, [], ◌++◌, ◌+◌, ◌≤◌, eqb, length, get_or};
 ghost use Rattle.encode.specs.Header.{block_size};
 ghost use Rattle.index.specs.Arrays.{lent};

@@ -1,4 +1,6 @@
 // Writing, and how long the file will be, for C and Rust. `fields` are the words of the record (crate words); how many bytes goes to the first place of `answer`.
+#![tactic(auto)]
+
 ghost use Rattle.std.specs.Prelude.{◌≡◌, length};
 ghost use Rattle.index.specs.Arrays.{lent};
 ghost use Rattle.index.specs.Step as Step;
