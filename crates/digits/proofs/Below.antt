@@ -20,6 +20,7 @@ module _ (B : ℕ) where
   below-yes (d ∷ ds) h = rw (lt-ltb d B (h 0 (zero-lt-suc (length ds)))) (below-yes ds (λ i l. h (suc i) (suc-le-suc l)))
 
   pub below-no : (ds : List ℕ) (i : ℕ) → i < length ds → B ≤ get_or ds i 0 → digits_below B ds ≡ false
+  below-no [] i l h = elim l [ ]
   below-no (d ∷ ds) zero l h = rw (le-ltb d B h)
   below-no (d ∷ ds) (suc i) (suc-le-suc l) h = go (ltb d B) (below-no ds i l h)
     where

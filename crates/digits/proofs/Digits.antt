@@ -15,6 +15,7 @@ module _ (B : ℕ) where
   length_digits (suc n) v = ap suc (length_digits n (v / B))
 
   pub get_or-digits : (n v i : ℕ) → i < n → get_or (digits B n v) i 0 ≡ v / B ^ i % B
+  get_or-digits zero v i h = elim h [ ]
   get_or-digits (suc n) v zero h = rw (div-pow-zero B v)
   get_or-digits (suc n) v (suc i) (suc-le-suc h) = get_or-digits n (v / B) i h ∙ ap (λ (z : ℕ). z % B) (div-first B v i)
 
