@@ -1,9 +1,9 @@
 -- The tests of `specs/Writing.antt` as facts, and what follows of the definitions there.
 use mathlib.Core.Path.{◌≡◌, sym, ◌∙◌}
 use mathlib.Core.List.{List}
-use mathlib.Core.Bool.{Bool, true, false, not, ◌&&◌}
+use mathlib.Core.Bool.{Bool, true, false, ◌&&◌}
 use Prim.Native.Nat.{ℕ, ◌^◌, ◌<◌, ◌≤◌}
-use borrow.Author.Tests.{ltb-true, leb-true, eqb-true, lt-ltb, le-leb, eq-eqb, not-true, not-false}
+use borrow.Author.Tests.{ltb-true, leb-true, eqb-true, lt-ltb, le-leb, eq-eqb}
 use lib.Dec.{ltb, leb, eqb}
 use lib.Pow.{pow_pos}
 use lib.ListN.{length}
@@ -34,11 +34,11 @@ unfolding at_width
 at_width_lem x h = rw (is-width h)
 
 -- a call of `is_width` that answers no, and one that answers yes
-pub no-width : {r : Bool} (w : ℕ) → r ≡ is_width w → not r ≡ true → is_width w ≡ false
-no-width {r} w e h = sym e ∙ not-true r h
+pub no-width : {r : Bool} (w : ℕ) → r ≡ is_width w → r ≡ false → is_width w ≡ false
+no-width w e h = sym e ∙ h
 
-pub a-width : {r : Bool} (w : ℕ) → r ≡ is_width w → not r ≡ false → Width w
-a-width {r} w e h = width_of w (sym e ∙ not-false r h)
+pub a-width : {r : Bool} (w : ℕ) → r ≡ is_width w → r ≡ true → Width w
+a-width w e h = width_of w (sym e ∙ h)
 
 -- ---- the codes of a vector
 
