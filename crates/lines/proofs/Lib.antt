@@ -1,3 +1,2 @@
--- Laws of newlines and cursors that several proofs cite.
-mod Cursors
+-- A buffer in which bytes move to the front.
 mod Newlines

@@ -1,26 +1,26 @@
-// The lines of standard input, one after the other, through a buffer that the caller lends:
+// The lines of what a reader gives, one after the other, through a buffer that the caller lends:
 //
-//     let mut cursor = lines::next_line(buf, lines::START);
+//     let mut cursor = lines::next_line(reader, buf, lines::START);
 //     while 0 < cursor.left {
 //         .. lines::line(buf, cursor) ..
-//         cursor = lines::next_line(buf, cursor);
+//         cursor = lines::next_line(reader, buf, cursor);
 //     }
 #![tactic(auto)]
 
 ghost use Rattle.std.specs.Prelude.{◌≡◌, ◌+◌, ◌≤◌, ◌<◌, length, take};
 ghost use Rattle.lines.specs.Lines.{Within, NoNewline, clipped, part_of, passed_over, at_end, Handed};
 
-use libc::STDIN_FILENO;
+use std::io::Read;
 
 // A part of the buffer: the bytes from `from` up to `to`.
-#[derive(Drop)]
+#[derive(Clone, Copy)]
 pub struct Span {
     pub from: usize,
     pub to: usize,
 }
 
 // Where the reading of the lines stands.
-#[derive(Drop)]
+#[derive(Clone, Copy)]
 pub struct Cursor {
     // The line that is handed out, without its newline.
     pub line: Span,
@@ -51,8 +51,9 @@ pub fn line(buf: &[u8], cursor: Cursor) -> &[u8]
     &buf[from..to]
 }
 
-// The next line. A last line without its newline counts, unless it is empty.
-pub fn next_line(buf: &mut [u8], before: Cursor) -> Cursor
+// The next line. A last line without its newline counts, unless it is empty. The reader is read only where the buffer has no whole line
+// more, and then once at a time, into all the room that there is: a line is handed out as soon as its newline has come.
+pub fn next_line<R: Read>(reader: &mut R, buf: &mut [u8], before: Cursor) -> Cursor
     ensures { Handed buf.new before.left result }
 {
     let unread = before.unread;
@@ -71,7 +72,7 @@ pub fn next_line(buf: &mut [u8], before: Cursor) -> Cursor
             long = true;
         }
         let kept = keep(buf, from, to);
-        let got = read_more(buf, kept);
+        let got = read_more(reader, buf, kept);
         if got == 0 {
             return last(buf, kept, long, left);
         }
@@ -190,8 +191,8 @@ fn at_end() -> Cursor
 fn keep(buf: &mut [u8], from: usize, to: usize) -> usize
     requires from_le_to { (from ≤ to) × (to ≤ length buf.old) }
     requires no_newline { NoNewline buf.old from to }
-    ensures upper_bound { result ≤ length buf.old }
-    ensures no_newline_2 { NoNewline buf.new 0 result }
+    ensures within { result ≤ length buf.old }
+    ensures clean { NoNewline buf.new 0 result }
 {
     let n = to - from;
     if n == buf.len() {
@@ -205,13 +206,12 @@ fn keep(buf: &mut [u8], from: usize, to: usize) -> usize
     n
 }
 
-// Reads once into the buffer from `kept` on, and answers how many bytes came.
-fn read_more(buf: &mut [u8], kept: usize) -> usize
+// Reads once into the buffer from `kept` on, and answers how many bytes came: none where the reading fails.
+fn read_more<R: Read>(reader: &mut R, buf: &mut [u8], kept: usize) -> usize
     requires { kept ≤ length buf.old }
-    ensures result_in_bounds { kept + result ≤ length buf.old }
-    ensures buf_unchanged { take kept buf.new ≡ take kept buf.old }
+    ensures within { kept + result ≤ length buf.old }
+    ensures front { take kept buf.new ≡ take kept buf.old }
 {
     let room = &mut buf[kept..];
-    let got = libc::read(STDIN_FILENO, room);
-    io::count(got, room)
+    reader.read(room).unwrap_or(0)
 }
