@@ -1,8 +1,7 @@
 // What scores are and how they are ordered: the specification (specs/) and its laws (proofs/).
-
-// A score, or the number of the refusal.
 #![tactic(auto)]
 
+// A score, or the number of the refusal.
 #[derive(Drop)]
 pub enum Scored {
     Score(f32),
