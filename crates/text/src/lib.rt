@@ -57,8 +57,8 @@ pub fn field(line: &[u8], i: usize) -> &[u8]
 
 // Where field i starts: the line's end where it has no such field.
 fn start(line: &[u8], i: usize) -> usize
-    ensures upper_bound { result ≤ length line.now }
-    ensures line_value { get_or (fields (drop result line.now)) 0 [] ≡ get_or (fields line.now) i [] }
+    ensures within { result ≤ length line.now }
+    ensures value { get_or (fields (drop result line.now)) 0 [] ≡ get_or (fields line.now) i [] }
 {
     let mut left = i;
     let mut at = 0;
@@ -76,8 +76,8 @@ fn start(line: &[u8], i: usize) -> usize
 
 // How many bytes stand before the first blank.
 fn first_length(line: &[u8]) -> usize
-    ensures upper_bound { result ≤ length line.now }
-    ensures line_value { take result line.now ≡ get_or (fields line.now) 0 [] }
+    ensures within { result ≤ length line.now }
+    ensures value { take result line.now ≡ get_or (fields line.now) 0 [] }
 {
     let mut i = 0;
     while i < line.len() {
