@@ -22,7 +22,7 @@ use Rattle.index.specs.Fit.{fit}
 use Rattle.index.specs.Step.{Query, Op, Answer, hits, first_of, when, unless, hits_of, query_refusal}
 use Rattle.lists.specs.Keep.{any}
 use Rattle.index.specs.Call.{call}
-use Rattle.index.specs.Answers.{result, hit_count, found, LaterKept}
+use Rattle.index.specs.Answers.{result_of, hit_count, found, LaterKept}
 use Rattle.index.proofs.Lent.{pairs-there}
 use Rattle.fit.proofs.Meaning.{meaning}
 use Rattle.fit.proofs.Rooms.{enough}
@@ -35,7 +35,7 @@ use Rattle.asking.proofs.Cells.{scores, cells, hits-nan}
 
 -- what a search leaves: its answer by `tell`, which is `found` or `found_keyed`, and the later places of both slices
 abbrev pub Leaves : Index → Arrays → Op → (tell : Found → List ℕ → List Float → Answer) → Found → (ns ms : List ℕ) → (ss ts : List Float) → Type 0
-Leaves x a op tell r ns ms ss ts = (result x a (tell r ms ts) ≡ call x a op) × (LaterKept (hit_count r) ns ms × LaterKept (hit_count r) ss ts)
+Leaves x a op tell r ns ms ss ts = (result_of x a (tell r ms ts) ≡ call x a op) × (LaterKept (hit_count r) ns ms × LaterKept (hit_count r) ss ts)
 
 -- ---- refusals one after the other
 
@@ -117,19 +117,19 @@ module _ (score : ℕ → Float) (marks : List ℕ) (n : ℕ) (can : Bool) (k pl
           go false t = absurd (not-other (length (chosen score marks n k)) (subst Other (is ∙ answer-is false t) e))
 
       -- of a call that answers this list: what it leaves after `hits::list` into its own places
-      module _ (x : Index) (a : Arrays) (op : Op) (answers : result x a (unless (when nan 12) (hits (chosen score marks n k))) ≡ call x a op)
+      module _ (x : Index) (a : Arrays) (op : Op) (answers : result_of x a (unless (when nan 12) (hits (chosen score marks n k))) ≡ call x a op)
           (ns ms : List ℕ) (ss ts : List Float) (f : ms ≡ over (map (λ e. e.0) (shown score marks n k r)) ns)
           (g : ts ≡ over (map (λ e. e.1) (shown score marks n k r)) ss) where
         pub leaves-hits : (m : ℕ) → r ≡ Listed.Hits m → Leaves x a op found (Found.Hits m) ns ms ss ts
         leaves-hits m e =
             let sound = some-hits m e in
             let there = pairs-there (chosen score marks n k) ns ss m ms ts sound.1 (rw e at f) (rw e at g) in
-            (ap (λ (es : List (ℕ × Float)). result x a (hits es)) there.0 ∙ ap (λ (b : Bool). result x a (unless (when b 12) (hits (chosen score marks n k)))) (sym sound.0) ∙ answers, there.1)
+            (ap (λ (es : List (ℕ × Float)). result_of x a (hits es)) there.0 ∙ ap (λ (b : Bool). result_of x a (unless (when b 12) (hits (chosen score marks n k)))) (sym sound.0) ∙ answers, there.1)
 
         pub leaves_none : Other r → Leaves x a op found (Found.Refused 12) ns ms ss ts
         unfolding over
         leaves_none e =
             let none = no-hits e in (
-              ap (λ (b : Bool). result x a (unless (when b 12) (hits (chosen score marks n k)))) (sym none.0) ∙ answers,
+              ap (λ (b : Bool). result_of x a (unless (when b 12) (hits (chosen score marks n k)))) (sym none.0) ∙ answers,
               (rw none.1 at f, rw none.1 at g),
             )

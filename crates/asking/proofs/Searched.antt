@@ -20,7 +20,7 @@ use Rattle.index.specs.State.{header_of, slot_at, state_of}
 use Rattle.index.specs.Fit.{fit}
 use Rattle.index.specs.Step.{Query, Op, Answer, refused, first_of, when, unless, Cell, live_from, Hit, short_result, searched, answered, step}
 use Rattle.index.specs.Call.{call}
-use Rattle.index.specs.Answers.{result}
+use Rattle.index.specs.Answers.{result_of}
 use Rattle.index.proofs.Kept.{first-refused}
 use Rattle.index.proofs.Calls.{call-misfit, call-answered}
 use Rattle.fit.proofs.Meaning.{meaning}
@@ -137,20 +137,20 @@ module _ (x : Index) (a : Arrays) (q : Query) (k places : ℕ) where
   module _ (op : Op) (show : List Hit → Answer)
       (is : (room : ℕ) → step room (state_of x a) op ≡ answered (state_of x a) (searched (header_of x) (live_from 0 (state_of x a).slots) q k places show)) where
     by_tests : fit x a ≡ true → (r : Answer) → shown_by x a q k show (first_of (search_fault x a q k places ∷ when (live_nan x a q) 12 ∷ [])) ≡ r →
-        result x a r ≡ call x a op
+        result_of x a r ≡ call x a op
     by_tests e r f = sym (call-answered x a op e r (is _ ∙ ap (answered (state_of x a)) (searched-tests e show ∙ f)))
 
-    pub search-refused : (n : ℕ) → n ≡ search_fault x a q k places → (n ≡ 0 → ⊥) → result x a (refused n) ≡ call x a op
+    pub search-refused : (n : ℕ) → n ≡ search_fault x a q k places → (n ≡ 0 → ⊥) → result_of x a (refused n) ≡ call x a op
     unfolding search_fault places_fault first_of
     search-refused n f some = go (fit x a) refl
       where
-        go : (b : Bool) → fit x a ≡ b → result x a (refused n) ≡ call x a op
+        go : (b : Bool) → fit x a ≡ b → result_of x a (refused n) ≡ call x a op
         go true e =
             let w = when (live_nan x a q) 12 in
             by_tests e (refused n) (ap (λ (m : ℕ). shown_by x a q k show (first_of (m ∷ w ∷ []))) (sym f) ∙ first-refused n w _ some)
-        go false e = ap (λ (m : ℕ). result x a (refused m)) (f ∙ rw e refl) ∙ sym (call-misfit x a op e)
+        go false e = ap (λ (m : ℕ). result_of x a (refused m)) (f ∙ rw e refl) ∙ sym (call-misfit x a op e)
 
-    pub search-listed : search_fault x a q k places ≡ 0 → result x a (shown_by x a q k show (when (live_nan x a q) 12)) ≡ call x a op
+    pub search-listed : search_fault x a q k places ≡ 0 → result_of x a (shown_by x a q k show (when (live_nan x a q) 12)) ≡ call x a op
     unfolding first_of
     search-listed none =
         by_tests (searched-fits none) _

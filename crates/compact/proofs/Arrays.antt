@@ -20,7 +20,7 @@ use Rattle.index.specs.State.{Slot, live, header_of, capacity, stage_at, slot_at
 use Rattle.index.specs.Fit.{fit}
 use Rattle.index.specs.Step.{rising, compacted, with_slots, step, compact, done}
 use Rattle.index.specs.Call.{call}
-use Rattle.index.specs.Answers.{result}
+use Rattle.index.specs.Answers.{result_of}
 use Rattle.index.specs.Sound.{Shaped, AllShaped}
 use Rattle.index.proofs.Fits.{slots-shaped}
 use Rattle.index.proofs.Calls.{call_fits}
@@ -251,6 +251,6 @@ module _ (x : Index) (a : Arrays) where
 
   -- ---- the call
 
-  pub compacted-call : fit x a ≡ true → (y : Index) (b : Arrays) → y ≡ with_kept x number → b ≡ overlay a (compacted (state_of x a).slots) → result y b done ≡ call x a compact
+  pub compacted-call : fit x a ≡ true → (y : Index) (b : Arrays) → y ≡ with_kept x number → b ≡ overlay a (compacted (state_of x a).slots) → result_of y b done ≡ call x a compact
   unfolding step state_of
   compacted-call e y b r s = (λ j. record { index = (r ∙ compacted-record) j; arrays = s j; answer = done }) ∙ sym (call_fits x a compact e)

@@ -19,7 +19,7 @@ use Rattle.index.specs.State.{Mark, dead, unkeyed, keyed, Slot, is_live, live, S
 use Rattle.index.specs.Fit.{between, fit}
 use Rattle.index.specs.Step.{done, key_of_mark, live_from, one_more, set_bits, when, rising, width_set, guarded, Outcome, step}
 use Rattle.index.specs.Call.{Result, call}
-use Rattle.index.specs.Answers.{result}
+use Rattle.index.specs.Answers.{result_of}
 use Rattle.index.specs.Make.{Begun, begun, empty, make_refusal, make_unless, make}
 use Rattle.index.specs.Sound.{Ranged, Sound}
 use Rattle.index.specs.Read.{count_in, key_from, entries_in, slot_in, slots_in, state_in, read_into}
@@ -133,7 +133,7 @@ read-good file b x e =
     begin-good x (read_into b file).arrays (read_fits b file x e) (rw same (read-rises file)) (rw same (read-words file))
 
 -- a width call on an index without slots
-width-fit : (y : Index) (b : Arrays) (w : ℕ) (x : Index) (a : Arrays) → fit y b ≡ true → y.n ≡ 0 → call y b (set_bits w) ≡ result x a done → (fit x a ≡ true) × (x.n ≡ 0)
+width-fit : (y : Index) (b : Arrays) (w : ℕ) (x : Index) (a : Arrays) → fit y b ≡ true → y.n ≡ 0 → call y b (set_bits w) ≡ result_of x a done → (fit x a ≡ true) × (x.n ≡ 0)
 unfolding step
 width-fit y b w x a g z f =
     let i : (call y b (set_bits w)).index ≡ x = ap (λ (r : Result). r.index) f in

@@ -34,7 +34,7 @@ use Rattle.index.specs.Step.{Item, Query, Answer, refused, done, flag, slot, may
 use Rattle.index.specs.Call.{Result, call}
 use Rattle.index.specs.Ties.{alike}
 use Rattle.index.specs.OneTrait.{one_trait, trait_score_of}
-use Rattle.index.specs.Answers.{result, hit_count, byte_count, first_entries, found, found_keyed, wrote, LaterKept}
+use Rattle.index.specs.Answers.{result_of, hit_count, byte_count, first_entries, found, found_keyed, wrote, LaterKept}
 use Rattle.index.specs.Make.{new_header, begun, make}
 use Rattle.index.specs.Read.{count_in, header_in, key_from, entries_in, slot_in, read_into}
 use Rattle.index.specs.History.{HistoryOp, add, add_keyed, add_multi, relabel, remove, compact, score, search, search_keyed, key_of, contains, slot_of, file_length, write, op_at}
@@ -267,7 +267,7 @@ made_header (with_working_dim dim working seed) = new_header dim working seed fa
 pub data Start (x : Index) (a : Arrays) : Type 0 where
   as_made : (m : Making) (b : Arrays) → make (made_header m) b ≡ begun (Made.Index x) a → Start x a
   with_width : (m : Making) (b : Arrays) (y : Index) (c : Arrays) (width : ℕ) → make (made_header m) b ≡ begun (Made.Index y) c → call y c (set_bits width) ≡
-      result x a done → Start x a
+      result_of x a done → Start x a
   as_read : (file : List ℕ) (b : Arrays) → read_into b file ≡ begun (Made.Index x) a → Start x a
 
 abbrev pub live_arrival : Cell → LiveArrival

@@ -7,11 +7,11 @@ use Rattle.index.specs.State.{header_of, capacity, state_of}
 use Rattle.index.specs.Fit.{fit}
 use Rattle.index.specs.Step.{Op, Answer, refused, Outcome, answered, step}
 use Rattle.index.specs.Call.{laid_over, call}
-use Rattle.index.specs.Answers.{result}
+use Rattle.index.specs.Answers.{result_of}
 use Rattle.index.proofs.Fits.{overlay-self, record-self}
 
 module _ (x : Index) (a : Arrays) (op : Op) where
-  pub call-misfit : fit x a ≡ false → call x a op ≡ result x a (refused 13)
+  pub call-misfit : fit x a ≡ false → call x a op ≡ result_of x a (refused 13)
   unfolding call
   call-misfit e = rw e
 
@@ -24,5 +24,5 @@ module _ (x : Index) (a : Arrays) (op : Op) where
     call_fits = rw e
 
     -- a call that leaves the value as it is
-    pub call-answered : (r : Answer) → outcome ≡ answered (state_of x a) r → call x a op ≡ result x a r
+    pub call-answered : (r : Answer) → outcome ≡ answered (state_of x a) r → call x a op ≡ result_of x a r
     call-answered r f = call_fits ∙ ap (laid_over a) f ∙ (λ i. record { index = record-self x a e i; arrays = overlay-self x a e i; answer = r })

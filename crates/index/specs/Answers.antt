@@ -27,23 +27,23 @@ use Rattle.index.specs.Arrays.{Arrays}
 use Rattle.index.specs.Step.{Answer, refused, done, flag, slot, maybe_slot, maybe_key, score_is, hits, key_hits, size, bytes}
 use Rattle.index.specs.Call.{Result}
 
-abbrev pub result : Index → Arrays → Answer → Result
-result x a r = record { index = x; arrays = a; answer = r }
+abbrev pub result_of : Index → Arrays → Answer → Result
+result_of x a r = record { index = x; arrays = a; answer = r }
 
 -- ---- calls that may change the index: the old record, the enum, the arrays at the end
 
 abbrev pub made : Index → Made → Arrays → Result
-made x (Made.Index y) a = result y a done
-made x (Made.Refused n) a = result x a (refused n)
+made x (Made.Index y) a = result_of y a done
+made x (Made.Refused n) a = result_of x a (refused n)
 
 abbrev pub added : Index → Added → Arrays → Result
-added x (Added.Slot i y) a = result y a (slot i)
-added x (Added.Refused n) a = result x a (refused n)
+added x (Added.Slot i y) a = result_of y a (slot i)
+added x (Added.Refused n) a = result_of x a (refused n)
 
 abbrev pub changed : Index → Changed → Arrays → Result
-changed x (Changed.Yes y) a = result y a (flag true)
-changed x Changed.No a = result x a (flag false)
-changed x (Changed.Refused n) a = result x a (refused n)
+changed x (Changed.Yes y) a = result_of y a (flag true)
+changed x Changed.No a = result_of x a (flag false)
+changed x (Changed.Refused n) a = result_of x a (refused n)
 
 -- ---- questions
 

@@ -11,13 +11,13 @@ use Rattle.index.specs.State.{state_of}
 use Rattle.index.specs.Fit.{fit}
 use Rattle.index.specs.Step.{Op, key_of, contains, slot_of, refused, flag, maybe_slot, maybe_key, live_from, is_held, slot_holding, key_answer, answered, step}
 use Rattle.index.specs.Call.{call}
-use Rattle.index.specs.Answers.{result}
+use Rattle.index.specs.Answers.{result_of}
 use Rattle.index.proofs.Calls.{call-misfit, call-answered}
 
 -- ---- the first test: r is what `fit::fits` answers
 
 module _ (x : Index) (a : Arrays) (r : Bool) (e : r ≡ fit x a) where
-  pub misfits : (op : Op) → not r ≡ true → result x a (refused 13) ≡ call x a op
+  pub misfits : (op : Op) → not r ≡ true → result_of x a (refused 13) ≡ call x a op
   misfits op f = sym (call-misfit x a op (sym e ∙ not-true r f))
 
   pub fits : not r ≡ false → fit x a ≡ true
@@ -26,14 +26,14 @@ module _ (x : Index) (a : Arrays) (r : Bool) (e : r ≡ fit x a) where
 -- ---- the questions
 
 module _ (x : Index) (a : Arrays) (e : fit x a ≡ true) where
-  pub key-asked : (i : ℕ) (k : Option ℕ) → key_answer (get_elem? (state_of x a).slots i) ≡ k → result x a (maybe_key k) ≡ call x a (key_of i)
+  pub key-asked : (i : ℕ) (k : Option ℕ) → key_answer (get_elem? (state_of x a).slots i) ≡ k → result_of x a (maybe_key k) ≡ call x a (key_of i)
   unfolding step
   key-asked i k f = sym (call-answered x a (key_of i) e (maybe_key k) (ap (λ (o : Option ℕ). answered (state_of x a) (maybe_key o)) f))
 
-  pub held-asked : (j : ℕ) (b : Bool) → is_held j (live_from 0 (state_of x a).slots) ≡ b → result x a (flag b) ≡ call x a (contains j)
+  pub held-asked : (j : ℕ) (b : Bool) → is_held j (live_from 0 (state_of x a).slots) ≡ b → result_of x a (flag b) ≡ call x a (contains j)
   unfolding step
   held-asked j b f = sym (call-answered x a (contains j) e (flag b) (ap (λ (t : Bool). answered (state_of x a) (flag t)) f))
 
-  pub slot-asked : (j p : ℕ) (i : Option ℕ) → slot_holding j p (live_from 0 (state_of x a).slots) ≡ i → result x a (maybe_slot i) ≡ call x a (slot_of j p)
+  pub slot-asked : (j p : ℕ) (i : Option ℕ) → slot_holding j p (live_from 0 (state_of x a).slots) ≡ i → result_of x a (maybe_slot i) ≡ call x a (slot_of j p)
   unfolding step
   slot-asked j p i f = sym (call-answered x a (slot_of j p) e (maybe_slot i) (ap (λ (o : Option ℕ). answered (state_of x a) (maybe_slot o)) f))

@@ -6,7 +6,7 @@ ghost use Rattle.std.specs.Prelude.{◌≡◌};
 ghost use Rattle.index.specs.Arrays.{lent};
 ghost use Rattle.index.specs.Step.{key_of, contains, slot_of};
 ghost use Rattle.index.specs.Call.{call};
-ghost use Rattle.index.specs.Answers.{result, key_is, asked, held_is};
+ghost use Rattle.index.specs.Answers.{result_of, key_is, asked, held_is};
 
 use index::{Asked, Held, Index, Keyed};
 
@@ -23,10 +23,9 @@ pub fn key_of(
     scales2: &[u32],
     slot: usize,
 ) -> Keyed
-    ensures* { λ r. ⌜
-        result index (lent codes.entry scales.entry keys.entry keyed.entry held.entry alive.entry codes2.entry scales2.entry) (key_is r)
+    ensures { result_of index (lent codes.entry scales.entry keys.entry keyed.entry held.entry alive.entry codes2.entry scales2.entry) (key_is result)
         ≡ call index (lent codes.entry scales.entry keys.entry keyed.entry held.entry alive.entry codes2.entry scales2.entry)
-        (key_of slot) ⌝ }
+        (key_of slot) }
 {
     if !fit::fits(
         index, codes, scales, keys, keyed, held, alive, codes2, scales2,
@@ -56,10 +55,9 @@ pub fn contains_key(
     scales2: &[u32],
     key: u64,
 ) -> Asked
-    ensures* { λ r. ⌜
-        result index (lent codes.entry scales.entry keys.entry keyed.entry held.entry alive.entry codes2.entry scales2.entry) (asked r)
+    ensures { result_of index (lent codes.entry scales.entry keys.entry keyed.entry held.entry alive.entry codes2.entry scales2.entry) (asked result)
         ≡ call index (lent codes.entry scales.entry keys.entry keyed.entry held.entry alive.entry codes2.entry scales2.entry)
-        (contains key) ⌝ }
+        (contains key) }
 {
     if !fit::fits(
         index, codes, scales, keys, keyed, held, alive, codes2, scales2,
@@ -87,10 +85,9 @@ pub fn slot_at(
     key: u64,
     position: usize,
 ) -> Held
-    ensures* { λ r. ⌜
-        result index (lent codes.entry scales.entry keys.entry keyed.entry held.entry alive.entry codes2.entry scales2.entry) (held_is r)
+    ensures { result_of index (lent codes.entry scales.entry keys.entry keyed.entry held.entry alive.entry codes2.entry scales2.entry) (held_is result)
         ≡ call index (lent codes.entry scales.entry keys.entry keyed.entry held.entry alive.entry codes2.entry scales2.entry)
-        (slot_of key position) ⌝ }
+        (slot_of key position) }
 {
     if !fit::fits(
         index, codes, scales, keys, keyed, held, alive, codes2, scales2,

@@ -23,7 +23,7 @@ use Rattle.index.specs.Form.{form_of, end_at}
 use Rattle.index.specs.File.{Entry, version_of, file_of}
 use Rattle.index.specs.Step.{live_from, key_of_mark, entry_of, file_bytes, file_length, size, answered, step}
 use Rattle.index.specs.Call.{call}
-use Rattle.index.specs.Answers.{result}
+use Rattle.index.specs.Answers.{result_of}
 use Rattle.index.specs.Sound.{Shaped}
 use Rattle.index.proofs.Fits.{slots-shaped}
 use Rattle.index.proofs.Calls.{call-answered}
@@ -150,6 +150,6 @@ module _ (x : Index) (a : Arrays) (e : fit x a ≡ true) where
   length-is counts version block bytes f v g k =
       k ∙ rw (f, g, v (map (slot_entry (header_of x) a) (numbers (header_of x) a x.n))) (sym (prefix-length (header_of x) a x.n fits.room))
 
-  pub length-call : (bytes : ℕ) → bytes ≡ length (file_bytes (header_of x) (live_from 0 (state_of x a).slots)) → result x a (size bytes) ≡ call x a file_length
+  pub length-call : (bytes : ℕ) → bytes ≡ length (file_bytes (header_of x) (live_from 0 (state_of x a).slots)) → result_of x a (size bytes) ≡ call x a file_length
   unfolding step state_of
   length-call bytes f = sym (call-answered x a file_length e (size bytes) (ap (λ (n : ℕ). answered (state_of x a) (size n)) (sym f)))

@@ -6,7 +6,7 @@ ghost use Rattle.index.specs.Arrays.{lent};
 ghost use Rattle.index.specs.Form.{form_of, stage_size, keys_at, end_at};
 ghost use Rattle.index.specs.Step.{file_length};
 ghost use Rattle.index.specs.Call.{call};
-ghost use Rattle.index.specs.Answers.{result, length_is};
+ghost use Rattle.index.specs.Answers.{result_of, length_is};
 ghost use Rattle.layout.specs.Counts.{entry_at, counts_of};
 
 use index::{Form, Index, Written};
@@ -15,14 +15,14 @@ use index::{Form, Index, Written};
 
 // How many bytes the scales and the codes of one stage take.
 fn stage_size(form: Form, block: u16, n: u32) -> usize
-    ensures* { λ r. ⌜ r ≡ stage_size form block n ⌝ }
+    ensures { result ≡ stage_size form block n }
 {
     n as usize * form.scale as usize + n as usize * block as usize
 }
 
 // Where the key table begins.
 fn keys_at(form: Form, block: u16, n: u32) -> usize
-    ensures* { λ r. ⌜ r ≡ keys_at form block n ⌝ }
+    ensures { result ≡ keys_at form block n }
 {
     let stage = stage_size(form, block, n);
     let second = 24 + form.width as usize + stage;
@@ -34,7 +34,7 @@ fn keys_at(form: Form, block: u16, n: u32) -> usize
 
 // Where the file ends, for blocks of so many bytes, n slots and k key entries.
 fn end_at(form: Form, block: u16, n: u32, k: u32) -> usize
-    ensures* { λ r. ⌜ r ≡ end_at form block n k ⌝ }
+    ensures { result ≡ end_at form block n k }
 {
     let keys = keys_at(form, block, n);
     if form.keys {
@@ -54,7 +54,7 @@ pub struct Counts {
 
 // Whether a slot has a key entry: it is live and has a key.
 pub fn has_entry(keyed: &[bool], alive: &[u8], slot: usize) -> bool
-    ensures* { λ r. ⌜ r ≡ entry_at keyed.now alive.now slot ⌝ }
+    ensures { result ≡ entry_at keyed.now alive.now slot }
 {
     if marks::is_live(alive, slot) {
         return slot_keys::is_keyed(keyed, slot);
@@ -64,7 +64,7 @@ pub fn has_entry(keyed: &[bool], alive: &[u8], slot: usize) -> bool
 
 // Both counts of the first n slots, in one walk. Past the end of `alive` all slots are dead: the walk ends there.
 pub fn count_slots(keyed: &[bool], alive: &[u8], n: usize) -> Counts
-    ensures* { λ r. ⌜ r ≡ counts_of keyed.now alive.now n ⌝ }
+    ensures { result ≡ counts_of keyed.now alive.now n }
 {
     let mut live: usize = 0;
     let mut entries: usize = 0;
@@ -88,7 +88,7 @@ pub fn count_slots(keyed: &[bool], alive: &[u8], n: usize) -> Counts
 // The length of a file of this version with these counts, its blocks being so many bytes.
 fn length_of(version: u16, block: usize, counts: Counts) -> usize
     requires { (block ≤ 4096) × (counts.live ≤ 65536) × (counts.keyed ≤ 65536) }
-    ensures* { λ r. ⌜ r ≡ end_at (form_of version) block counts.live counts.keyed ⌝ }
+    ensures { result ≡ end_at (form_of version) block counts.live counts.keyed }
 {
     end_at(
         form::form_of(version),
@@ -110,11 +110,10 @@ pub fn file_length(
     codes2: &[u8],
     scales2: &[u32],
 ) -> Written
-    ensures* { λ r. ⌜
-        result index (lent codes.entry scales.entry keys.entry keyed.entry held.entry alive.entry codes2.entry scales2.entry)
-        (length_is r)
+    ensures { result_of index (lent codes.entry scales.entry keys.entry keyed.entry held.entry alive.entry codes2.entry scales2.entry)
+        (length_is result)
         ≡ call index (lent codes.entry scales.entry keys.entry keyed.entry held.entry alive.entry codes2.entry scales2.entry)
-        file_length ⌝ }
+        file_length }
 {
     if fit::fits(
         index, codes, scales, keys, keyed, held, alive, codes2, scales2,

@@ -19,7 +19,7 @@ use Rattle.index.specs.Fit.{fit}
 use Rattle.index.specs.Codec.{encoded}
 use Rattle.index.specs.Step.{Item, first_of, when, refused, slot, Outcome, with_slots, guarded, appended}
 use Rattle.index.specs.Call.{Result, laid_over}
-use Rattle.index.specs.Answers.{result}
+use Rattle.index.specs.Answers.{result_of}
 use Rattle.index.proofs.Encoded.{encoded-shaped}
 use Rattle.index.proofs.Fits.{overlay-self, record-self, fit-sound}
 use Rattle.index.proofs.Places.{overlay-more}
@@ -34,9 +34,9 @@ unfolding record_of state_of
 live-count x a e = ap (λ (y : Index). y.live) (record-self x a e)
 
 -- a refusal of the step
-pub step-refused : (x : Index) (a : Arrays) (e : fit x a ≡ true) (n : ℕ) (o : Outcome) → result x a (refused (suc n)) ≡ laid_over a (guarded (state_of x a) (suc n) o)
+pub step-refused : (x : Index) (a : Arrays) (e : fit x a ≡ true) (n : ℕ) (o : Outcome) → result_of x a (refused (suc n)) ≡ laid_over a (guarded (state_of x a) (suc n) o)
 unfolding guarded
-step-refused x a e n o = λ j. result (sym (record-self x a e) j) (sym (overlay-self x a e) j) (refused (suc n))
+step-refused x a e n o = λ j. result_of (sym (record-self x a e) j) (sym (overlay-self x a e) j) (refused (suc n))
 
 module _ (x : Index) (a : Arrays) (k : ℕ) (on : Bool) (p : ℕ) (v : Item) where
   abbrev h : Header
@@ -88,7 +88,7 @@ module _ (x : Index) (a : Arrays) (k : ℕ) (on : Bool) (p : ℕ) (v : Item) whe
     unfolding guarded recoded
     outcome zero q =
         let below = (accepted x a x.n v (refusal_is ∙ q)).below in
-        λ j. result (sym record_is j) (sym (arrays-are below) j) (slot x.n)
+        λ j. result_of (sym record_is j) (sym (arrays-are below) j) (slot x.n)
     outcome (suc n) q = step-refused x a e n (grown x.n)
 
     pub append-fits : unless_refused x a (refusal x a x.n v) done ≡ laid_over a (appended room (state_of x a) mark v)

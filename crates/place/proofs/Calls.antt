@@ -18,7 +18,7 @@ use Rattle.index.specs.State.{Slot, header_of, capacity, mark_of, alive_of, has_
 use Rattle.index.specs.Fit.{row_at, rows, fit}
 use Rattle.index.specs.Step.{Item, first_of, when, refused, slot}
 use Rattle.index.specs.Call.{Result}
-use Rattle.index.specs.Answers.{result}
+use Rattle.index.specs.Answers.{result_of}
 use Rattle.index.proofs.Overlay.{roomy}
 use Rattle.index.proofs.Fits.{fitting}
 use Rattle.fit.proofs.Rooms.{enough, in-width}
@@ -99,9 +99,9 @@ module _ (x : Index) (a : Arrays) (i : ℕ) (v : Item) (ok : Accepted x a i v) w
 -- a refusal leaves record and arrays as they were
 abbrev pub unless_refused : Index → Arrays → (refusal : ℕ) → Result → Result
 unless_refused x a zero r = r
-unless_refused x a (suc n) r = result x a (refused (suc n))
+unless_refused x a (suc n) r = result_of x a (refused (suc n))
 
-pub refused_as : (x : Index) (a : Arrays) (n : ℕ) (r : Result) → (n ≡ 0 → ⊥) → result x a (refused n) ≡ unless_refused x a n r
+pub refused_as : (x : Index) (a : Arrays) (n : ℕ) (r : Result) → (n ≡ 0 → ⊥) → result_of x a (refused n) ≡ unless_refused x a n r
 refused_as x a zero r s = absurd (s refl)
 refused_as x a (suc n) r s = refl
 
@@ -110,7 +110,7 @@ abbrev pub written : Index → Arrays → Spot → (fresh : Bool) → Item → S
 written x a s fresh v = new_slot (mark_of 1 s.has_key s.key s.position) (recoded (header_of x) fresh (slot_at (header_of x) a s.slot).code v)
 
 abbrev pub wrote : Index → Arrays → Spot → (fresh : Bool) → Item → Result
-wrote x a s fresh v = result (after_add x fresh) (put_slot (header_of x) a s.slot (written x a s fresh v)) (slot s.slot)
+wrote x a s fresh v = result_of (after_add x fresh) (put_slot (header_of x) a s.slot (written x a s fresh v)) (slot s.slot)
 
 -- the parts of a live slot's mark
 record Parts (k : ℕ) (on : Bool) (p : ℕ) : Type 0 where
@@ -128,7 +128,7 @@ module _ (x : Index) (a : Arrays) (s : Spot) (marked : cond s.has_key s.position
   pub done : data_in codes scales codes2 scales2 ≡ put_code (header_of x) (data_in a.codes a.scales a.codes2 a.scales2) fresh s.slot v →
       keys ≡ set a.keys s.slot s.key → keyed ≡ set a.keyed s.slot s.has_key → held ≡ set a.held s.slot s.position →
       alive ≡ set a.alive s.slot 1 → y ≡ after_add x fresh →
-      result y (record { codes = codes; scales = scales; keys = keys; keyed = keyed; held = held; alive = alive; codes2 = codes2; scales2 = scales2 }) (slot s.slot)
+      result_of y (record { codes = codes; scales = scales; keys = keys; keyed = keyed; held = held; alive = alive; codes2 = codes2; scales2 = scales2 }) (slot s.slot)
       ≡ wrote x a s fresh v
   unfolding put_code put_slot slot_at
   done d e f g h z =
@@ -145,4 +145,4 @@ module _ (x : Index) (a : Arrays) (s : Spot) (marked : cond s.has_key s.position
         codes2 = (d j).codes2;
         scales2 = (d j).scales2;
       } in
-      λ j. result (z j) (place j) (slot s.slot)
+      λ j. result_of (z j) (place j) (slot s.slot)

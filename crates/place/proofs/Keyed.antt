@@ -18,7 +18,7 @@ use Rattle.index.specs.State.{keyed, mark_of, header_of, capacity, slot_at, stat
 use Rattle.index.specs.Fit.{fit}
 use Rattle.index.specs.Step.{Item, add, add_keyed, add_multi, live_from, holds_at, slot_holding, overwritten, refused, slot, Outcome, with_slots, guarded, appended, step}
 use Rattle.index.specs.Call.{Result, laid_over, call}
-use Rattle.index.specs.Answers.{result}
+use Rattle.index.specs.Answers.{result_of}
 use Rattle.index.proofs.Calls.{call-misfit, call_fits}
 use Rattle.slot_keys.specs.Has.{slot_has}
 use Rattle.held.specs.Held.{held_count, slot_holds, held_slot}
@@ -134,7 +134,7 @@ module _ (x : Index) (a : Arrays) (v : Item) where
       spot-call : puts s (eqb s.slot x.n) ≡ call x a (op_of w v)
       spot-call = ap (λ (t : Spot). puts t (eqb t.slot x.n)) is ∙ put-call
 
-      pub refused-call : (number ≡ 0 → ⊥) → result x a (refused number) ≡ call x a (op_of w v)
+      pub refused-call : (number ≡ 0 → ⊥) → result_of x a (refused number) ≡ call x a (op_of w v)
       refused-call t = refused_as x a number after t ∙ ap (λ (n : ℕ). unless_refused x a n after) num ∙ spot-call
 
       module _ (zero_is : number ≡ 0) where

@@ -27,7 +27,7 @@ use Rattle.index.specs.Sound.{Shaped, AllShaped}
 use Rattle.index.specs.Codec.{encoded}
 use Rattle.index.specs.Step.{Item, first_of, slot, holds_at, overwritten, Outcome, with_slots, guarded}
 use Rattle.index.specs.Call.{Result, laid_over}
-use Rattle.index.specs.Answers.{result}
+use Rattle.index.specs.Answers.{result_of}
 use Rattle.index.proofs.Encoded.{encoded-shaped}
 use Rattle.index.proofs.Overlay.{plain-none, residual-some, plain-seconds, residual-seconds, second_of}
 use Rattle.index.proofs.Fits.{fitting, overlay-self, fit-sound}
@@ -218,7 +218,7 @@ module _ (x : Index) (a : Arrays) (i : ℕ) (v : Item) where
 
       outcome : (n : ℕ) → unless_refused x a n done ≡ laid_over a (guarded (state_of x a) n changes)
       unfolding guarded
-      outcome zero = λ t. result (sym record_is t) (sym placed t) (slot i)
+      outcome zero = λ t. result_of (sym record_is t) (sym placed t) (slot i)
       outcome (suc n) = step-refused x a e n changes
 
       pub overwrite-fits : unless_refused x a (refusal x a i v) done ≡ laid_over a (guarded (state_of x a) (fault h v.vector) changes)

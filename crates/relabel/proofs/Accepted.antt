@@ -14,7 +14,7 @@ use Rattle.index.specs.State.{Mark, keyed, is_live, state_of, alive_of, has_key,
 use Rattle.index.specs.Fit.{fit}
 use Rattle.index.specs.Step.{flag, holds, remarked, step, relabel, relabelled}
 use Rattle.index.specs.Call.{call}
-use Rattle.index.specs.Answers.{result}
+use Rattle.index.specs.Answers.{result_of}
 use Rattle.index.proofs.Calls.{outcome, call-answered}
 use Rattle.slot_keys.specs.Has.{slot_has}
 use Rattle.held.specs.Held.{held_count}
@@ -42,12 +42,12 @@ module _ (x : Index) (a : Arrays) (e : fit x a ≡ true) where
     unfolding step may_change
     relabel-outcome = rw (is-held x a e old, is-held x a e new)
 
-    pub relabel-no : may ≡ false → call x a (relabel old new) ≡ result x a (flag false)
+    pub relabel-no : may ≡ false → call x a (relabel old new) ≡ result_of x a (flag false)
     unfolding remarked
     relabel-no t = call-answered x a (relabel old new) e (flag false) (relabel-outcome ∙ rw t)
 
     pub relabel-yes : may ≡ true → (ks : List ℕ) → ks ≡ replaced_where (slot_has a.keys a.keyed old) x.n new 0 a.keys →
-        call x a (relabel old new) ≡ result x (with_keys a ks) (flag true)
+        call x a (relabel old new) ≡ result_of x (with_keys a ks) (flag true)
     unfolding with_live
     relabel-yes t ks is =
         marked-call x a e f (relabel old new) (λ m. false) (relabel-outcome ∙ rw t)

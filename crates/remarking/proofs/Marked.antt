@@ -18,7 +18,7 @@ use Rattle.index.specs.State.{Mark, keyed, Slot, is_live, live, header_of, mark_
 use Rattle.index.specs.Fit.{fit}
 use Rattle.index.specs.Step.{Op, flag, holds, on_mark, guarded, remarked}
 use Rattle.index.specs.Call.{laid_over, call}
-use Rattle.index.specs.Answers.{result}
+use Rattle.index.specs.Answers.{result_of}
 use Rattle.slot_keys.specs.Has.{slot_has}
 use Rattle.held.proofs.Value.{mark-holds}
 use Rattle.remarking.specs.Replaced.{replaced_where}
@@ -137,7 +137,7 @@ module _ (x : Index) (a : Arrays) (e : fit x a ≡ true) where
     -- the call, where it is accepted
     pub marked-call : (op : Op) (dies : Mark → Bool) → outcome x a op e ≡ remarked (state_of x a) true 0 f →
         ((m : Mark) → bit (is_live m) ≡ bit (is_live (f m)) + bit (dies m)) →
-        call x a op ≡ result (with_live x (x.live - count dies (tab (mark_at a) x.n))) after_marks (flag true)
+        call x a op ≡ result_of (with_live x (x.live - count dies (tab (mark_at a) x.n))) after_marks (flag true)
     unfolding remarked guarded state_of record_of with_live
     marked-call op dies o h =
         call_fits x a op e ∙ ap (laid_over a) o

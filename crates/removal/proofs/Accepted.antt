@@ -21,7 +21,7 @@ use Rattle.index.specs.State.{Mark, dead, unkeyed, keyed, slot_at, state_of, ali
 use Rattle.index.specs.Fit.{fit}
 use Rattle.index.specs.Step.{Op, flag, Outcome, live_from, held_by, holds, holds_at, answered, remarked, step, remove, removed, remove_at, gap_filled, position_of}
 use Rattle.index.specs.Call.{call}
-use Rattle.index.specs.Answers.{result}
+use Rattle.index.specs.Answers.{result_of}
 use Rattle.index.proofs.Calls.{outcome, call-answered}
 use Rattle.lists.proofs.Tests.{and_left, and_right}
 use Rattle.index.proofs.Marks.{bit-one}
@@ -87,7 +87,7 @@ module _ (x : Index) (a : Arrays) (e : fit x a ≡ true) where
 
         killed-call : (w : SlotMarks) → parts_of x a e kill position a.held ≡ w.held → replaced_where p x.n false false a.keyed ≡ w.keyed →
             replaced_where p x.n 0 0 a.alive ≡ w.alive →
-            call x a op ≡ result (with_live x (x.live - count p (below x.n))) (with_marks a w) (flag true)
+            call x a op ≡ result_of (with_live x (x.live - count p (below x.n))) (with_marks a w) (flag true)
         killed-call w hs ks ls =
             marked-call x a e kill op dies o (killing-live dies place not_dead not-unkeyed)
             ∙ (λ j. record {
@@ -120,7 +120,7 @@ module _ (x : Index) (a : Arrays) (e : fit x a ≡ true) where
     unfolding step
     remove-outcome = rw (is-held x a e key)
 
-    pub remove-no : many ≡ 0 → call x a (remove key) ≡ result x a (flag false)
+    pub remove-no : many ≡ 0 → call x a (remove key) ≡ result_of x a (flag false)
     unfolding remarked
     remove-no t = call-answered x a (remove key) e (flag false) (remove-outcome ∙ rw (le-ltb 0 many (omega arith)))
 
@@ -137,7 +137,7 @@ module _ (x : Index) (a : Arrays) (e : fit x a ≡ true) where
           (λ i l. has-at x a e key i l) (killing-part (holds key) position (λ u. refl) (λ u. refl) position position 0 (λ u. refl) (λ u. refl) (λ u. refl) (λ k q. refl))
 
       pub remove-yes : (w : SlotMarks) → w ≡ dead_where (slot_has a.keys a.keyed key) x.n (marks_of a) →
-          call x a (remove key) ≡ result (with_live x (x.live - many)) (with_marks a w) (flag true)
+          call x a (remove key) ≡ result_of (with_live x (x.live - many)) (with_marks a w) (flag true)
       unfolding dead_where
       remove-yes w is =
           killed-call (holds key) position (remove key) accepted (λ u. refl) (λ u. refl) (slot_has a.keys a.keyed key) (λ i l. has-at x a e key i l) w
@@ -166,7 +166,7 @@ module _ (x : Index) (a : Arrays) (e : fit x a ≡ true) where
     unfolding step
     at-choice b t = ap choice (at_position ∙ ap (λ c. cond c (some (get_or a.held slot 0)) none) t)
 
-    pub at-no : here ≡ false → call x a (remove_at key slot) ≡ result x a (flag false)
+    pub at-no : here ≡ false → call x a (remove_at key slot) ≡ result_of x a (flag false)
     at-no t = call-answered x a (remove_at key slot) e (flag false) (at-choice false t)
 
     module _ (t : here ≡ true) where
@@ -255,11 +255,11 @@ module _ (x : Index) (a : Arrays) (e : fit x a ≡ true) where
       at-few = omega (arith, one, killed-few (holds_at key gap) place (remove_at key slot) at-outcome (λ u. refl) (λ u. refl) gone (λ i l. holds_at_lem key i l gap))
 
       pub at-yes : (w : SlotMarks) → w ≡ dead_at slot (placed_at last gap (marks_of a)) →
-          call x a (remove_at key slot) ≡ result (with_live x (x.live - 1)) (with_marks a w) (flag true)
+          call x a (remove_at key slot) ≡ result_of (with_live x (x.live - 1)) (with_marks a w) (flag true)
       unfolding dead_at placed_at
       at-yes w is =
           killed-call (holds_at key gap) place (remove_at key slot) at-outcome (λ u. refl) (λ u. refl) gone (λ i l. holds_at_lem key i l gap) w
           (places-are ∙ sym (ap (λ (v : SlotMarks). v.held) is))
           (sym (ap (λ (v : SlotMarks). v.keyed) is ∙ set-only gone x.n slot gap-only false false a.keyed (room x a e).keyed))
           (sym (ap (λ (v : SlotMarks). v.alive) is ∙ set-only gone x.n slot gap-only 0 0 a.alive (room x a e).alive))
-          ∙ ap (λ (n : ℕ). result (with_live x (x.live - n)) (with_marks a w) (flag true)) one
+          ∙ ap (λ (n : ℕ). result_of (with_live x (x.live - n)) (with_marks a w) (flag true)) one

@@ -12,7 +12,7 @@ ghost use Rattle.index.specs.Codec.{score_of};
 ghost use Rattle.index.specs.Step as Step;
 ghost use Rattle.index.specs.Step.{query_of};
 ghost use Rattle.index.specs.Call.{call};
-ghost use Rattle.index.specs.Answers.{result, scored};
+ghost use Rattle.index.specs.Answers.{result_of, scored};
 
 use index::Index;
 use score::Scored;
@@ -26,7 +26,7 @@ fn floats() -> [f32; 4096] {
 
 // The scale of a slot; 0 past the end.
 fn scale_at(scales: &[u32], slot: usize) -> u32
-    ensures* { λ r. ⌜ r ≡ get_or scales.now slot 0 ⌝ }
+    ensures { result ≡ get_or scales.now slot 0 }
 {
     if slot < scales.len() {
         return scales[slot];
@@ -45,10 +45,9 @@ fn score_prepared(
     centroids: &[f32],
     query: &[f32],
 ) -> Scored
-    ensures* { λ r. ⌜
-        r ≡ judged (slot_score index.bits centroids.now query.now
+    ensures { result ≡ judged (slot_score index.bits centroids.now query.now
         (stage_at (header_of index) scales.now codes.now slot)
-        (cond index.residual (some (stage_at (header_of index) scales2.now codes2.now slot)) none)) ⌝ }
+        (cond index.residual (some (stage_at (header_of index) scales2.now codes2.now slot)) none)) }
 {
     let size = codes::bytes_per_vector(padding::padded_dim(index.working_dim), index.bits);
     let scale = scale_at(scales, slot);
@@ -73,10 +72,9 @@ fn score_by_width(
 ) -> Scored
     requires le_bits { (4 ≤ index.bits) × (index.bits ≤ 6) }
     requires query_value { rotatable index.working_dim (length query.now) 4096 ≡ true }
-    ensures* { λ r. ⌜
-        r ≡ judged (score_of (header_of index) (query_of query.now) (code_in index.residual
+    ensures { result ≡ judged (score_of (header_of index) (query_of query.now) (code_in index.residual
         (stage_at (header_of index) scales.now codes.now slot)
-        (stage_at (header_of index) scales2.now codes2.now slot))) ⌝ }
+        (stage_at (header_of index) scales2.now codes2.now slot))) }
 {
     let n = lloyd::levels(index.bits);
     let centroids = lloyd::centroids(index.bits);
@@ -111,10 +109,9 @@ pub fn score(
     slot: usize,
     query: &[f32],
 ) -> Scored
-    ensures* { λ r. ⌜
-        result index (lent codes.entry scales.entry keys.entry keyed.entry held.entry alive.entry codes2.entry scales2.entry) (scored r)
+    ensures { result_of index (lent codes.entry scales.entry keys.entry keyed.entry held.entry alive.entry codes2.entry scales2.entry) (scored result)
         ≡ call index (lent codes.entry scales.entry keys.entry keyed.entry held.entry alive.entry codes2.entry scales2.entry)
-        (Step.score slot (query_of query.now)) ⌝ }
+        (Step.score slot (query_of query.now)) }
 {
     if !fit::fits(
         index, codes, scales, keys, keyed, held, alive, codes2, scales2,

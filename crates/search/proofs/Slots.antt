@@ -13,7 +13,7 @@ use Rattle.index.specs.State.{header_of, state_of}
 use Rattle.index.specs.Step.{Query, Hit, Answer, hits, when, unless, live_from, by_slot, searched, answered, step}
 use Rattle.index.specs.Step as Step
 use Rattle.index.specs.Call.{call}
-use Rattle.index.specs.Answers.{result, found}
+use Rattle.index.specs.Answers.{result_of, found}
 use Rattle.hits.specs.declared.Listed.{Listed}
 use Rattle.hits.specs.declared.Listed.TheVariants as Listed
 use Rattle.hits.specs.Hits.{ready, shown, list_answer}
@@ -49,9 +49,9 @@ module _ (x : Index) (a : Arrays) (q : Query) (k places : ℕ) where
       yes : can ≡ true
       yes = is-ready x a (searched-fits x a q k places none) q (searched-query x a q k places none)
 
-      answers : result x a (unless (when (live_nan x a q) 12) (hits (live_chosen x a q k))) ≡ call x a (Step.search q k places)
+      answers : result_of x a (unless (when (live_nan x a q) 12) (hits (live_chosen x a q k))) ≡ call x a (Step.search q k places)
       answers =
-          (λ j. result x a (unless (when (live_nan x a q) 12) (hits (sym (by-slot (header_of x) a (live_chosen x a q k)) j))))
+          (λ j. result_of x a (unless (when (live_nan x a q) 12) (hits (sym (by-slot (header_of x) a (live_chosen x a q k)) j))))
           ∙ search-listed x a q k places (Step.search q k places) by_slots is none
 
       pub slots-listed : (m : ℕ) → r ≡ Listed.Hits m → Leaves x a (Step.search q k places) found (Found.Hits m) ns ms ss ts

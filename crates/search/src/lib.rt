@@ -6,7 +6,7 @@ ghost use Rattle.index.specs.Arrays.{lent};
 ghost use Rattle.index.specs.Step as Step;
 ghost use Rattle.index.specs.Step.{query_of};
 ghost use Rattle.index.specs.Call.{call};
-ghost use Rattle.index.specs.Answers.{result, hit_count, found, LaterKept};
+ghost use Rattle.index.specs.Answers.{result_of, hit_count, found, LaterKept};
 
 use hits::Listed;
 use index::{Found, Index};
@@ -28,12 +28,11 @@ pub fn search(
     slots: &mut [u32],
     scores: &mut [f32],
 ) -> Found
-    ensures* scores_after { λ r. ⌜
-        result index (lent codes.entry scales.entry keys.entry keyed.entry held.entry alive.entry codes2.entry scales2.entry)
-        (found r slots.new scores.new)
+    ensures answers { result_of index (lent codes.entry scales.entry keys.entry keyed.entry held.entry alive.entry codes2.entry scales2.entry)
+        (found result slots.new scores.new)
         ≡ call index (lent codes.entry scales.entry keys.entry keyed.entry held.entry alive.entry codes2.entry scales2.entry)
-        (Step.search (query_of query.now) k (min (length slots.old) (length scores.old))) ⌝ }
-    ensures* fact { λ r. ⌜ LaterKept (hit_count r) slots.old slots.new × LaterKept (hit_count r) scores.old scores.new ⌝ }
+        (Step.search (query_of query.now) k (min (length slots.old) (length scores.old))) }
+    ensures later_kept { LaterKept (hit_count result) slots.old slots.new × LaterKept (hit_count result) scores.old scores.new }
 {
     let fault = asking::search_fault(
         index,

@@ -23,7 +23,7 @@ use Rattle.index.specs.Fit.{fit}
 use Rattle.index.specs.Step.{Hit, Query, Answer, refused, hits, first_of, when, unless, Cell, live_from, hits_of, rank, by_slot, query_refusal, short_result, candidates, wide, searched_cascade, answered, step}
 use Rattle.index.specs.Step as Step
 use Rattle.index.specs.Call.{call}
-use Rattle.index.specs.Answers.{result, found}
+use Rattle.index.specs.Answers.{result_of, found}
 use Rattle.index.proofs.Kept.{first-refused}
 use Rattle.index.proofs.Calls.{call-misfit, call-answered}
 use Rattle.fit.proofs.Meaning.{meaning}
@@ -129,7 +129,7 @@ module _ (x : Index) (a : Arrays) (q : Query) (k r places : ℕ) where
           ∙ ap (λ (n : ℕ). unless n (hits candidate_hits)) (tests (when nan_found 12))
 
       by_tests : (answer : Answer) → unless (first_of (cascade_fault x a q k places ∷ when nan_found 12 ∷ [])) (hits candidate_hits) ≡ answer →
-          result x a answer ≡ call x a (Step.search_cascade q k r places)
+          result_of x a answer ≡ call x a (Step.search_cascade q k r places)
       unfolding step
       by_tests answer f = sym (call-answered x a (Step.search_cascade q k r places) e answer (ap (answered (state_of x a)) (answer-is ∙ f)))
 
@@ -163,14 +163,14 @@ module _ (x : Index) (a : Arrays) (q : Query) (k r places : ℕ) where
         are : (i : ℕ) → i < x.n → takes_part marks i ≡ near x a q many i
         are = marks-are x a q many []
 
-        go : (b c : Bool) → fit x a ≡ b → enabled x ≡ c → result x a (refused f) ≡ call x a (Step.search_cascade q k r places)
+        go : (b c : Bool) → fit x a ≡ b → enabled x ≡ c → result_of x a (refused f) ≡ call x a (Step.search_cascade q k r places)
         go true true e on =
             by_tests marks are e on (refused f)
             (ap (λ (m : ℕ). unless (first_of (m ∷ when (nan_found marks are) 12 ∷ [])) (hits (candidate_hits marks are))) (sym is)
             ∙ first-refused f (when (nan_found marks are) 12) (hits (candidate_hits marks are)) some)
         go true false e off =
             sym (call-answered x a (Step.search_cascade q k r places) e (refused f) (ap (answered (state_of x a)) (idle-answer e off ∙ ap refused (sym is))))
-        go false c e o = ap (λ (m : ℕ). result x a (refused m)) (is ∙ rw e refl) ∙ sym (call-misfit x a (Step.search_cascade q k r places) e)
+        go false c e o = ap (λ (m : ℕ). result_of x a (refused m)) (is ∙ rw e refl) ∙ sym (call-misfit x a (Step.search_cascade q k r places) e)
 
     -- ---- or not
 
@@ -225,7 +225,7 @@ module _ (x : Index) (a : Arrays) (q : Query) (k r places : ℕ) where
         yes : can ≡ true
         yes = is-ready x a passed.0 q passed.3
 
-        answers : result x a (unless (when (nan_found marks marks-set) 12) (hits (candidate_hits marks marks-set))) ≡ call x a (Step.search_cascade q k r places)
+        answers : result_of x a (unless (when (nan_found marks marks-set) 12) (hits (candidate_hits marks marks-set))) ≡ call x a (Step.search_cascade q k r places)
         unfolding first_of
         answers =
             let o = hits (candidate_hits marks marks-set) in

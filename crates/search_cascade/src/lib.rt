@@ -6,7 +6,7 @@ ghost use Rattle.index.specs.Arrays.{lent};
 ghost use Rattle.index.specs.Step as Step;
 ghost use Rattle.index.specs.Step.{query_of};
 ghost use Rattle.index.specs.Call.{call};
-ghost use Rattle.index.specs.Answers.{result, hit_count, found, LaterKept};
+ghost use Rattle.index.specs.Answers.{result_of, hit_count, found, LaterKept};
 ghost use Rattle.search_cascade.specs.Cascade.{enabled, cascade_fault};
 
 use hits::Listed;
@@ -16,7 +16,7 @@ use index::{Found, Index};
 
 // Refusal 11 is where this is false.
 fn is_enabled(index: Index) -> bool
-    ensures* { λ r. ⌜ r ≡ enabled index ⌝ }
+    ensures { result ≡ enabled index }
 {
     if index.cascade {
         return index.bits == 4;
@@ -40,9 +40,8 @@ fn cascade_fault(
     slots: usize,
     scores: usize,
 ) -> u8
-    ensures* { λ r. ⌜
-        r ≡ cascade_fault index (lent codes.entry scales.entry keys.entry keyed.entry held.entry alive.entry codes2.entry scales2.entry)
-        (query_of query.now) k (min slots scores) ⌝ }
+    ensures { result ≡ cascade_fault index (lent codes.entry scales.entry keys.entry keyed.entry held.entry alive.entry codes2.entry scales2.entry)
+        (query_of query.now) k (min slots scores) }
 {
     let fault = asking::places_fault(
         index, codes, scales, keys, keyed, held, alive, codes2, scales2, k, slots, scores,
@@ -60,7 +59,7 @@ fn cascade_fault(
 
 // How many slots are to be scored: "r raised to k, at most live".
 fn candidates_wanted(k: usize, r: usize, live: usize) -> usize
-    ensures* { λ n. ⌜ n ≡ Step.wide k r live ⌝ }
+    ensures { result ≡ Step.wide k r live }
 {
     if live <= r {
         return live;
@@ -102,13 +101,11 @@ pub fn search_cascade(
     slots: &mut [u32],
     scores: &mut [f32],
 ) -> Found
-    ensures* scores_after { λ answer. ⌜
-        result index (lent codes.entry scales.entry keys.entry keyed.entry held.entry alive.entry codes2.entry scales2.entry)
-        (found answer slots.new scores.new)
+    ensures answers { result_of index (lent codes.entry scales.entry keys.entry keyed.entry held.entry alive.entry codes2.entry scales2.entry)
+        (found result slots.new scores.new)
         ≡ call index (lent codes.entry scales.entry keys.entry keyed.entry held.entry alive.entry codes2.entry scales2.entry)
-        (Step.search_cascade (query_of query.now) k r (min (length slots.old) (length scores.old))) ⌝ }
-    ensures* fact { λ answer. ⌜
-        LaterKept (hit_count answer) slots.old slots.new × LaterKept (hit_count answer) scores.old scores.new ⌝ }
+        (Step.search_cascade (query_of query.now) k r (min (length slots.old) (length scores.old))) }
+    ensures later_kept { LaterKept (hit_count result) slots.old slots.new × LaterKept (hit_count result) scores.old scores.new }
 {
     let fault = cascade_fault(
         index,

@@ -22,7 +22,7 @@ use Rattle.index.specs.Fit.{fit}
 use Rattle.index.specs.Step.{Query, Hit, Answer, key_hits, when, live_from, by_key, key_of_mark, searched, answered, step}
 use Rattle.index.specs.Step as Step
 use Rattle.index.specs.Call.{call}
-use Rattle.index.specs.Answers.{result, found_keyed}
+use Rattle.index.specs.Answers.{result_of, found_keyed}
 use Rattle.index.proofs.Lent.{pairs-there}
 use Rattle.held.proofs.Value.{mark-part}
 use Rattle.hits.specs.declared.Listed.{Listed}
@@ -152,8 +152,8 @@ module _ (x : Index) (a : Arrays) (q : Query) (k places : ℕ) where
         abbrev shown_as : Bool → Answer
         shown_as b = shown_by x a q k by_keys (when b 12)
 
-        answers : (b : Bool) → live_nan x a q ≡ b → result x a (shown_as b) ≡ call x a (Step.search_keyed q k places)
-        answers b t = ap (λ (c : Bool). result x a (shown_as c)) (sym t) ∙ search-listed x a q k places (Step.search_keyed q k places) by_keys is accepted
+        answers : (b : Bool) → live_nan x a q ≡ b → result_of x a (shown_as b) ≡ call x a (Step.search_keyed q k places)
+        answers b t = ap (λ (c : Bool). result_of x a (shown_as c)) (sym t) ∙ search-listed x a q k places (Step.search_keyed q k places) by_keys is accepted
 
         named : (b : Bool) → live_nan x a q ≡ b → Leaves x a (Step.search_keyed q k places) found_keyed (named_answer (given b) (written (given b))) ns ms ss ls
         unfolding over
@@ -163,7 +163,7 @@ module _ (x : Index) (a : Arrays) (q : Query) (k places : ℕ) where
         named false t =
             let some : r ≡ given false = g ∙ gives false t in
             let there = pairs-there (written (given false)) ns ss (length (written (given false))) ms ls refl (rw some at i) (rw some at l) in
-            (ap (λ (ks : List (ℕ × Float)). result x a (key_hits ks)) (there.0 ∙ by_key_lem t) ∙ answers false t, there.1)
+            (ap (λ (ks : List (ℕ × Float)). result_of x a (key_hits ks)) (there.0 ∙ by_key_lem t) ∙ answers false t, there.1)
 
         pub keys-named : Leaves x a (Step.search_keyed q k places) found_keyed s ns ms ss ls
         keys-named =

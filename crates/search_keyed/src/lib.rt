@@ -7,7 +7,7 @@ ghost use Rattle.index.specs.Arrays.{lent};
 ghost use Rattle.index.specs.Step as Step;
 ghost use Rattle.index.specs.Step.{query_of};
 ghost use Rattle.index.specs.Call.{call};
-ghost use Rattle.index.specs.Answers.{result, hit_count, found_keyed, LaterKept};
+ghost use Rattle.index.specs.Answers.{result_of, hit_count, found_keyed, LaterKept};
 ghost use Rattle.search_keyed.specs.Named.{listed_count, keyed_of, named_answer};
 
 use hits::Listed;
@@ -42,12 +42,12 @@ fn name_hits(
     scores: &mut [f32],
 ) -> Found
     requires { (listed_count listed ≤ length slots.now) × (listed_count listed ≤ length found.now) }
-    ensures* r_value { λ r. ⌜ r ≡ named_answer listed (keyed_of keys.now keyed.now slots.now found.now
-        (min (length names.old) (length scores.old)) listed) ⌝ }
-    ensures* names_after { λ _. ⌜ names.new ≡ over (map (λ e. e.0) (keyed_of keys.now keyed.now slots.now found.now
-        (min (length names.old) (length scores.old)) listed)) names.old ⌝ }
-    ensures* scores_after { λ _. ⌜ scores.new ≡ over (map (λ e. e.1) (keyed_of keys.now keyed.now slots.now found.now
-        (min (length names.old) (length scores.old)) listed)) scores.old ⌝ }
+    ensures value { result ≡ named_answer listed (keyed_of keys.now keyed.now slots.now found.now
+        (min (length names.old) (length scores.old)) listed) }
+    ensures names_after { names.new ≡ over (map (λ e. e.0) (keyed_of keys.now keyed.now slots.now found.now
+        (min (length names.old) (length scores.old)) listed)) names.old }
+    ensures scores_after { scores.new ≡ over (map (λ e. e.1) (keyed_of keys.now keyed.now slots.now found.now
+        (min (length names.old) (length scores.old)) listed)) scores.old }
 {
     let Listed::Hits(m) = listed else {
         return Found::Refused(12);
@@ -73,12 +73,11 @@ pub fn search_keyed(
     names: &mut [u64],
     scores: &mut [f32],
 ) -> Found
-    ensures* scores_after { λ r. ⌜
-        result index (lent codes.entry scales.entry keys.entry keyed.entry held.entry alive.entry codes2.entry scales2.entry)
-        (found_keyed r names.new scores.new)
+    ensures answers { result_of index (lent codes.entry scales.entry keys.entry keyed.entry held.entry alive.entry codes2.entry scales2.entry)
+        (found_keyed result names.new scores.new)
         ≡ call index (lent codes.entry scales.entry keys.entry keyed.entry held.entry alive.entry codes2.entry scales2.entry)
-        (Step.search_keyed (query_of query.now) k (min (length names.old) (length scores.old))) ⌝ }
-    ensures* fact { λ r. ⌜ LaterKept (hit_count r) names.old names.new × LaterKept (hit_count r) scores.old scores.new ⌝ }
+        (Step.search_keyed (query_of query.now) k (min (length names.old) (length scores.old))) }
+    ensures later_kept { LaterKept (hit_count result) names.old names.new × LaterKept (hit_count result) scores.old scores.new }
 {
     let fault = asking::search_fault(
         index,

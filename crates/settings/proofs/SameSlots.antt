@@ -12,7 +12,7 @@ use Rattle.index.specs.State.{header_of, record_with, slot_at, state_of, record_
 use Rattle.index.specs.Fit.{fit}
 use Rattle.index.specs.Step.{Op, Answer}
 use Rattle.index.specs.Call.{laid_over, call}
-use Rattle.index.specs.Answers.{result}
+use Rattle.index.specs.Answers.{result_of}
 use Rattle.index.proofs.Fits.{overlay-self, record-self}
 use Rattle.index.proofs.Calls.{outcome, call_fits}
 
@@ -22,7 +22,7 @@ with_header x h on = record_with h x.n x.live on
 module _ (x : Index) (a : Arrays) where
   pub call-same-slots : (op : Op) (e : fit x a ≡ true) (h : Header) (on : Bool) (r : Answer) →
       outcome x a op e ≡ record { state = record { header = h; cascade = on; slots = (state_of x a).slots }; answer = r } →
-      call x a op ≡ result (with_header x h on) a r
+      call x a op ≡ result_of (with_header x h on) a r
   unfolding record_of
   call-same-slots op e h on r f =
       call_fits x a op e ∙ ap (laid_over a) f ∙ (λ i. record { index = with_header (record-self x a e i) h on; arrays = overlay-self x a e i; answer = r })

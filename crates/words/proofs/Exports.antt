@@ -33,7 +33,7 @@ use Rattle.index.specs.Arrays.{Arrays}
 use Rattle.index.specs.State.{record_of}
 use Rattle.index.specs.Step.{first_of, Op, Answer, refused, flag, slot}
 use Rattle.index.specs.Call.{Result, call}
-use Rattle.index.specs.Answers.{result, made, added, changed, asked, key_is, held_is, scored, length_is, hit_count, byte_count, wrote, LaterKept}
+use Rattle.index.specs.Answers.{result_of, made, added, changed, asked, key_is, held_is, scored, length_is, hit_count, byte_count, wrote, LaterKept}
 use Rattle.index.proofs.Refusals.{never-0}
 use Rattle.index.specs.Make.{Begun, begun, make}
 use Rattle.index.specs.Read.{state_in, read_refusal, read_unless, read_into}
@@ -67,7 +67,7 @@ module _ (places : ℕ) (fs ws : List ℕ) (r : Record) (e : r ≡ record_beside
     kept : fs ≡ over (words_of x) fs
     kept = written-again fs x room.1
 
-    refusal-left : (n : ℕ) (b : Arrays) → left n fs ws b ≡ leaves (result x b (refused n)) fs ws
+    refusal-left : (n : ℕ) (b : Arrays) → left n fs ws b ≡ leaves (result_of x b (refused n)) fs ws
     unfolding over
     refusal-left n b = λ i. left n (kept i) ws b
 
@@ -76,11 +76,11 @@ module _ (places : ℕ) (fs ws : List ℕ) (r : Record) (e : r ≡ record_beside
     by_call op a o g = ap (λ (y : Result). leaves y fs ws) g ∙ by-fields _ x _ _ (sym e ∙ is)
 
     -- questions
-    pub told-left : (op : Op) (a : Arrays) (t : Answer) → result x a t ≡ call x a op → length (in_words t).words ≤ places → (n : ℕ) (ws' : List ℕ) → put n ws' ≡ put_answer t ws →
+    pub told-left : (op : Op) (a : Arrays) (t : Answer) → result_of x a t ≡ call x a op → length (in_words t).words ≤ places → (n : ℕ) (ws' : List ℕ) → put n ws' ≡ put_answer t ws →
         left n fs ws' a ≡ left_by places op fs ws a
     told-left op a t g h n ws' p =
         let q = p ∙ sym (words-put (in_words t).number (in_words t).words ws (omega (arith, room.0, h))) in
-        (λ i. left (q i).number (kept i) (q i).words a) ∙ by_call op a (result x a t) g
+        (λ i. left (q i).number (kept i) (q i).words a) ∙ by_call op a (result_of x a t) g
 
 -- how many words a question answers at most
 pub asked-words : (t : Asked) → length (in_words (asked t)).words ≤ 1
@@ -118,7 +118,7 @@ module _ (fs ws : List ℕ) (r : Record) (e : r ≡ record_beside 1 fs ws) where
     place = (room 1 fs ws r e x is).0
 
     next-left : (y : Index) (m : ℕ) (t : Answer) → in_words t ≡ put 0 (m ∷ []) → (b : Arrays) →
-        left (put_next y (m ∷ []) fs ws).number (put_next y (m ∷ []) fs ws).fields (put_next y (m ∷ []) fs ws).answer b ≡ leaves (result y b t) fs ws
+        left (put_next y (m ∷ []) fs ws).number (put_next y (m ∷ []) fs ws).fields (put_next y (m ∷ []) fs ws).answer b ≡ leaves (result_of y b t) fs ws
     next-left y m t is' b = rw (le-ltb (length fs) record_words (eight fs x (room 1 fs ws r e x is).1), le-ltb (length ws) 1 place) (ap (λ (q : Put). left q.number (over (words_of y) fs) (over q.words ws) b) (sym is'))
 
     module _ (op : Op) (a b : Arrays) where
@@ -139,17 +139,17 @@ module _ (fs ws : List ℕ) (r : Record) (e : r ≡ record_beside 1 fs ws) where
 
     -- of a call that leaves the index as it is
     module _ (op : Op) (a b : Arrays) where
-      by_answer : (t : Answer) → result x b t ≡ call x a op → t ≡ answer_beside op a fs ws
+      by_answer : (t : Answer) → result_of x b t ≡ call x a op → t ≡ answer_beside op a fs ws
       unfolding answer_beside
       by_answer t g = ap (λ (o : Result). o.answer) g ∙ by-fields _ x _ _ (sym e ∙ is)
 
-      not-0 : (t : Answer) → result x b t ≡ call x a op → t ≡ refused 0 → ⊥
+      not-0 : (t : Answer) → result_of x b t ≡ call x a op → t ≡ refused 0 → ⊥
       not-0 t g h = never-0 x a op (sym (ap (λ (o : Result). o.answer) g) ∙ h)
 
       -- `tell` is `found` or `found_keyed`
       pub list_done : (tell : Found → List ℕ → List Float → Answer) → ((n : ℕ) (ns : List ℕ) (ss : List Float) → tell (Found.Refused n) ns ss ≡ refused n) →
           (f : Found) (ns ms : List ℕ) (ss ts : List Float) →
-          (result x b (tell f ms ts) ≡ call x a op) × (LaterKept (hit_count f) ns ms × LaterKept (hit_count f) ss ts) →
+          (result_of x b (tell f ms ts) ≡ call x a op) × (LaterKept (hit_count f) ns ms × LaterKept (hit_count f) ss ts) →
           (n : ℕ) (ws' : List ℕ) → put n ws' ≡ put_found f ws →
           (tell (found_in n ws') ms ts ≡ answer_beside op a fs ws)
           × (LaterKept (word_count n) ws ws' × (LaterKept (hit_count (found_in n ws')) ns ms × LaterKept (hit_count (found_in n ws')) ss ts))
@@ -159,7 +159,7 @@ module _ (fs ws : List ℕ) (r : Record) (e : r ≡ record_beside 1 fs ws) where
           subst (λ (k : Found). (tell k ms ts ≡ answer_beside op a fs ws) × (LaterKept (word_count n) ws ws' × (LaterKept (hit_count k) ns ms × LaterKept (hit_count k) ss ts)))
           (sym told.0) (by_answer (tell f ms ts) g.0, (told.1, g.1))
 
-      pub write_done : (f : Written) (file next : List ℕ) → (result x b (wrote f next) ≡ call x a op) × LaterKept (byte_count f) file next →
+      pub write_done : (f : Written) (file next : List ℕ) → (result_of x b (wrote f next) ≡ call x a op) × LaterKept (byte_count f) file next →
           (n : ℕ) (ws' : List ℕ) → put n ws' ≡ put_answer (length_is f) ws →
           (wrote (written_in n ws') next ≡ answer_beside op a fs ws) × (LaterKept (word_count n) ws ws' × LaterKept (byte_count (written_in n ws')) file next)
       write_done f file next g n ws' p =

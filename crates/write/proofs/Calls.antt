@@ -19,7 +19,7 @@ use Rattle.index.specs.Fit.{fit}
 use Rattle.index.specs.File.{Entry, version_of}
 use Rattle.index.specs.Step.{Answer, refused, size, bytes, file_length, write, live_from, file_bytes, answered, when, unless, step}
 use Rattle.index.specs.Call.{Result, call}
-use Rattle.index.specs.Answers.{result, byte_count, wrote, LaterKept}
+use Rattle.index.specs.Answers.{result_of, byte_count, wrote, LaterKept}
 use Rattle.index.proofs.Calls.{call-misfit, call-answered}
 use Rattle.index.proofs.Lent.{entries-there}
 use Rattle.write.specs.Put.{PutFrom}
@@ -40,11 +40,11 @@ module _ (x : Index) (a : Arrays) where
 
   -- ---- what the length tells
 
-  length-answer : fit x a ≡ true → call x a file_length ≡ result x a (size (length file))
+  length-answer : fit x a ≡ true → call x a file_length ≡ result_of x a (size (length file))
   unfolding step state_of
   length-answer e = call-answered x a file_length e (size (length file)) refl
 
-  pub measured : (n : ℕ) → result x a (size n) ≡ call x a file_length → (fit x a ≡ true) × (n ≡ length file)
+  pub measured : (n : ℕ) → result_of x a (size n) ≡ call x a file_length → (fit x a ≡ true) × (n ≡ length file)
   measured n r = go (fit x a) refl
     where
       go : (b : Bool) → fit x a ≡ b → (b ≡ true) × (n ≡ length file)
@@ -53,7 +53,7 @@ module _ (x : Index) (a : Arrays) where
           let f : size n ≡ refused 13 = ap (λ (z : Result). z.answer) (r ∙ call-misfit x a file_length e) in
           absurd (let z : ◌≡◌ {A = ℕ} 0 1 = cc in omega arith)
 
-  pub unmeasured : (k : ℕ) → result x a (refused k) ≡ call x a file_length → (fit x a ≡ false) × (k ≡ 13)
+  pub unmeasured : (k : ℕ) → result_of x a (refused k) ≡ call x a file_length → (fit x a ≡ false) × (k ≡ 13)
   unmeasured k r = go (fit x a) refl
     where
       go : (b : Bool) → fit x a ≡ b → (b ≡ false) × (k ≡ 13)
@@ -67,13 +67,13 @@ module _ (x : Index) (a : Arrays) where
   module _ (old : List ℕ) where
     -- what the call leaves: its answer, and the later places of the file
     abbrev Leaves : Written → (next : List ℕ) → Type 0
-    Leaves r next = (result x a (wrote r next) ≡ call x a (write (length old))) × LaterKept (byte_count r) old next
+    Leaves r next = (result_of x a (wrote r next) ≡ call x a (write (length old))) × LaterKept (byte_count r) old next
 
     pub write-misfit : (k : ℕ) → fit x a ≡ false → k ≡ 13 → Leaves (Written.Refused k) old
-    write-misfit k e f = (ap (λ (n : ℕ). result x a (refused n)) f ∙ sym (call-misfit x a (write (length old)) e), refl)
+    write-misfit k e f = (ap (λ (n : ℕ). result_of x a (refused n)) f ∙ sym (call-misfit x a (write (length old)) e), refl)
 
     module _ (e : fit x a ≡ true) where
-      answer : (r : Answer) → unless (when (ltb (length old) (length file)) 13) (bytes file) ≡ r → result x a r ≡ call x a (write (length old))
+      answer : (r : Answer) → unless (when (ltb (length old) (length file)) 13) (bytes file) ≡ r → result_of x a r ≡ call x a (write (length old))
       unfolding step state_of
       answer r f = sym (call-answered x a (write (length old)) e r (ap (answered (state_of x a)) f))
 
@@ -85,7 +85,7 @@ module _ (x : Index) (a : Arrays) where
       unfolding state_of over
       write_done v n next new d f l p =
           let first = entries-there file old n new f there in
-          (ap (λ (bs : List ℕ). result x a (bytes bs)) first.0 ∙ answer (bytes file) (rw (le-ltb (length old) (length file) (omega arith))), first.1)
+          (ap (λ (bs : List ℕ). result_of x a (bytes bs)) first.0 ∙ answer (bytes file) (rw (le-ltb (length old) (length file) (omega arith))), first.1)
         where
           there : new ≡ over file old
           there =

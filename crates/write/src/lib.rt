@@ -8,7 +8,7 @@ ghost use Rattle.index.specs.State.{header_of};
 ghost use Rattle.index.specs.File.{le_bytes, width_byte, head_bytes};
 ghost use Rattle.index.specs.Step as Step;
 ghost use Rattle.index.specs.Call.{call};
-ghost use Rattle.index.specs.Answers.{result, byte_count, wrote, LaterKept};
+ghost use Rattle.index.specs.Answers.{result_of, byte_count, wrote, LaterKept};
 ghost use Rattle.layout.specs.Counts.{entry_at};
 ghost use Rattle.write.specs.Put.{PutFrom};
 ghost use Rattle.write.specs.Pieces.{in_order, scale_piece, code_piece, key_piece, stage_pieces, second_pieces, file_pieces};
@@ -20,7 +20,7 @@ use index::{Index, Written};
 // A number in `size` bytes, the lowest first.
 fn put_number(file: &mut [u8], at: usize, size: usize, value: u64) -> usize
     requires { at + size ≤ length file.old }
-    ensures* { λ r. ⌜ PutFrom (le_bytes size value) at r file.old file.new ⌝ }
+    ensures { PutFrom (le_bytes size value) at result file.old file.new }
 {
     let mut rest = value;
     let mut i: usize = 0;
@@ -35,7 +35,7 @@ fn put_number(file: &mut [u8], at: usize, size: usize, value: u64) -> usize
 // A copy of other bytes.
 fn put_bytes(file: &mut [u8], at: usize, bytes: &[u8]) -> usize
     requires { at + length bytes.now ≤ length file.old }
-    ensures* { λ r. ⌜ PutFrom bytes.now at r file.old file.new ⌝ }
+    ensures { PutFrom bytes.now at result file.old file.new }
 {
     let mut i: usize = 0;
     while i < bytes.len() {
@@ -49,7 +49,7 @@ fn put_bytes(file: &mut [u8], at: usize, bytes: &[u8]) -> usize
 
 // The scale of a slot; 0 past the end.
 fn scale_of(scales: &[u32], slot: usize) -> u32
-    ensures* { λ r. ⌜ r ≡ get_or scales.now slot 0 ⌝ }
+    ensures { result ≡ get_or scales.now slot 0 }
 {
     if slot < scales.len() {
         return scales[slot];
@@ -60,7 +60,7 @@ fn scale_of(scales: &[u32], slot: usize) -> u32
 // The scale as a half.
 fn put_scale(file: &mut [u8], at: usize, scales: &[u32], alive: &[u8], slot: usize) -> usize
     requires { at + length (scale_piece scales.now alive.now slot) ≤ length file.old }
-    ensures* { λ r. ⌜ PutFrom (scale_piece scales.now alive.now slot) at r file.old file.new ⌝ }
+    ensures { PutFrom (scale_piece scales.now alive.now slot) at result file.old file.new }
 {
     if !marks::is_live(alive, slot) {
         return at;
@@ -80,7 +80,7 @@ fn put_block(
     slot: usize,
 ) -> usize
     requires { at + length (code_piece codes.now alive.now block slot) ≤ length file.old }
-    ensures* { λ r. ⌜ PutFrom (code_piece codes.now alive.now block slot) at r file.old file.new ⌝ }
+    ensures { PutFrom (code_piece codes.now alive.now block slot) at result file.old file.new }
 {
     if marks::is_live(alive, slot) {
         return put_bytes(file, at, codes::slot_codes(codes, slot, block));
@@ -99,9 +99,8 @@ fn put_entry(
     number: usize,
 ) -> usize
     requires { at + length (cond (entry_at keyed.now alive.now slot) (le_bytes 4 number ++ le_bytes 8 (get_or keys.now slot 0)) []) ≤ length file.old }
-    ensures* { λ r. ⌜
-        PutFrom (cond (entry_at keyed.now alive.now slot) (le_bytes 4 number ++ le_bytes 8 (get_or keys.now slot 0)) [])
-        at r file.old file.new ⌝ }
+    ensures { PutFrom (cond (entry_at keyed.now alive.now slot) (le_bytes 4 number ++ le_bytes 8 (get_or keys.now slot 0)) [])
+        at result file.old file.new }
 {
     if layout::has_entry(keyed, alive, slot) {
         let next = put_number(file, at, 4, number as u64);
@@ -114,7 +113,7 @@ fn put_entry(
 
 fn put_scales(file: &mut [u8], at: usize, scales: &[u32], alive: &[u8], n: usize) -> usize
     requires { at + length (in_order (scale_piece scales.now alive.now) n) ≤ length file.old }
-    ensures* { λ r. ⌜ PutFrom (in_order (scale_piece scales.now alive.now) n) at r file.old file.new ⌝ }
+    ensures { PutFrom (in_order (scale_piece scales.now alive.now) n) at result file.old file.new }
 {
     let mut next = at;
     let mut i: usize = 0;
@@ -134,7 +133,7 @@ fn put_codes(
     n: usize,
 ) -> usize
     requires { at + length (in_order (code_piece codes.now alive.now block) n) ≤ length file.old }
-    ensures* { λ r. ⌜ PutFrom (in_order (code_piece codes.now alive.now block) n) at r file.old file.new ⌝ }
+    ensures { PutFrom (in_order (code_piece codes.now alive.now block) n) at result file.old file.new }
 {
     let mut next = at;
     let mut i: usize = 0;
@@ -156,9 +155,8 @@ fn put_stage(
     n: usize,
 ) -> usize
     requires { at + length (stage_pieces codes.now scales.now alive.now block n) ≤ length file.old }
-    ensures* { λ r. ⌜
-        PutFrom (stage_pieces codes.now scales.now alive.now block n)
-        at r file.old file.new ⌝ }
+    ensures { PutFrom (stage_pieces codes.now scales.now alive.now block n)
+        at result file.old file.new }
 {
     let next = put_scales(file, at, scales, alive, n);
     put_codes(file, next, codes, alive, block, n)
@@ -176,9 +174,8 @@ fn put_second(
     n: usize,
 ) -> usize
     requires { at + length (second_pieces residual codes2.now scales2.now alive.now block n) ≤ length file.old }
-    ensures* { λ r. ⌜
-        PutFrom (second_pieces residual codes2.now scales2.now alive.now block n)
-        at r file.old file.new ⌝ }
+    ensures { PutFrom (second_pieces residual codes2.now scales2.now alive.now block n)
+        at result file.old file.new }
 {
     if residual {
         return put_stage(file, at, codes2, scales2, alive, block, n);
@@ -196,9 +193,8 @@ fn put_entries(
     n: usize,
 ) -> usize
     requires { at + length (in_order (key_piece keys.now keyed.now alive.now) n) ≤ length file.old }
-    ensures* { λ r. ⌜
-        PutFrom (in_order (key_piece keys.now keyed.now alive.now) n)
-        at r file.old file.new ⌝ }
+    ensures { PutFrom (in_order (key_piece keys.now keyed.now alive.now) n)
+        at result file.old file.new }
 {
     let mut next = at;
     let mut number: usize = 0;
@@ -217,7 +213,7 @@ fn put_entries(
 
 // The working_dim field: 0 if it equals dim.
 fn working_field(index: Index) -> usize
-    ensures* { λ r. ⌜ r ≡ cond (eqb index.working_dim index.dim) 0 index.working_dim ⌝ }
+    ensures { result ≡ cond (eqb index.working_dim index.dim) 0 index.working_dim }
 {
     if index.working_dim == index.dim {
         return 0;
@@ -228,7 +224,7 @@ fn working_field(index: Index) -> usize
 // The first 24 bytes: VECQ, version, working_dim, dim, seed, live count.
 fn put_head(file: &mut [u8], version: u16, index: Index, live: usize) -> usize
     requires { 24 ≤ length file.old }
-    ensures* { λ r. ⌜ PutFrom (head_bytes version (header_of index) live) 0 r file.old file.new ⌝ }
+    ensures { PutFrom (head_bytes version (header_of index) live) 0 result file.old file.new }
 {
     let magic = put_number(file, 0, 4, 0x5143_4556);
     let field = put_number(file, magic, 2, version as u64);
@@ -241,7 +237,7 @@ fn put_head(file: &mut [u8], version: u16, index: Index, live: usize) -> usize
 // The width byte, where the version has one.
 fn put_width(file: &mut [u8], at: usize, version: u16, index: Index) -> usize
     requires { at + length (width_byte version (header_of index)) ≤ length file.old }
-    ensures* { λ r. ⌜ PutFrom (width_byte version (header_of index)) at r file.old file.new ⌝ }
+    ensures { PutFrom (width_byte version (header_of index)) at result file.old file.new }
 {
     if form::form_of(version).width {
         file[at] = index.bits;
@@ -267,9 +263,8 @@ fn put_file(
     requires block_value { block ≡ block_size (header_of index) }
     requires n_in_bounds { 0 + length (file_pieces version (header_of index) codes.now scales.now keys.now keyed.now alive.now codes2.now scales2.now index.n)
         ≤ length file.old }
-    ensures* { λ r. ⌜
-        PutFrom (file_pieces version (header_of index) codes.now scales.now keys.now keyed.now alive.now
-        codes2.now scales2.now index.n) 0 r file.old file.new ⌝ }
+    ensures { PutFrom (file_pieces version (header_of index) codes.now scales.now keys.now keyed.now alive.now
+        codes2.now scales2.now index.n) 0 result file.old file.new }
 {
     let n = index.n;
     let counts = layout::count_slots(keyed, alive, n);
@@ -303,12 +298,11 @@ pub fn to_bytes(
     scales2: &[u32],
     file: &mut [u8],
 ) -> Written
-    ensures* file_after { λ r. ⌜
-        result index (lent codes.entry scales.entry keys.entry keyed.entry held.entry alive.entry codes2.entry scales2.entry)
-        (wrote r file.new)
+    ensures answers { result_of index (lent codes.entry scales.entry keys.entry keyed.entry held.entry alive.entry codes2.entry scales2.entry)
+        (wrote result file.new)
         ≡ call index (lent codes.entry scales.entry keys.entry keyed.entry held.entry alive.entry codes2.entry scales2.entry)
-        (Step.write (length file.old)) ⌝ }
-    ensures* fact { λ r. ⌜ LaterKept (byte_count r) file.old file.new ⌝ }
+        (Step.write (length file.old)) }
+    ensures later_kept { LaterKept (byte_count result) file.old file.new }
 {
     let measured = layout::file_length(
         index, codes, scales, keys, keyed, held, alive, codes2, scales2,
