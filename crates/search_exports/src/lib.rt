@@ -38,12 +38,12 @@ pub extern "C" fn vecq_raw_search(
     slots: &mut [u32],
     scores: &mut [f32],
 ) -> u8
-    ensures scores_after { let a = lent codes.entry scales.entry keys.entry keyed.entry held.entry alive.entry codes2.entry scales2.entry in
+    ensures answers { let a = lent codes.entry scales.entry keys.entry keyed.entry held.entry alive.entry codes2.entry scales2.entry in
         let op = Step.search (query_of query.now) k (min (length slots.old) (length scores.old)) in
         found (found_in result answer.new) slots.new scores.new
         ≡ answer_beside op a fields.now answer.old }
-    ensures later_kept { LaterKept (word_count result) answer.old answer.new }
-    ensures fact { let m = hit_count (found_in result answer.new) in
+    ensures answer_kept { LaterKept (word_count result) answer.old answer.new }
+    ensures lists_kept { let m = hit_count (found_in result answer.new) in
         LaterKept m slots.old slots.new × LaterKept m scores.old scores.new }
 {
     let Record::Fields(index) = words::record_beside(fields, answer, 1) else {
@@ -72,12 +72,12 @@ pub extern "C" fn vecq_raw_search_keyed(
     names: &mut [u64],
     scores: &mut [f32],
 ) -> u8
-    ensures scores_after { let a = lent codes.entry scales.entry keys.entry keyed.entry held.entry alive.entry codes2.entry scales2.entry in
+    ensures answers { let a = lent codes.entry scales.entry keys.entry keyed.entry held.entry alive.entry codes2.entry scales2.entry in
         let op = Step.search_keyed (query_of query.now) k (min (length names.old) (length scores.old)) in
         found_keyed (found_in result answer.new) names.new scores.new
         ≡ answer_beside op a fields.now answer.old }
-    ensures later_kept { LaterKept (word_count result) answer.old answer.new }
-    ensures fact { let m = hit_count (found_in result answer.new) in
+    ensures answer_kept { LaterKept (word_count result) answer.old answer.new }
+    ensures lists_kept { let m = hit_count (found_in result answer.new) in
         LaterKept m names.old names.new × LaterKept m scores.old scores.new }
 {
     let Record::Fields(index) = words::record_beside(fields, answer, 1) else {
@@ -107,12 +107,12 @@ pub extern "C" fn vecq_raw_search_cascade(
     slots: &mut [u32],
     scores: &mut [f32],
 ) -> u8
-    ensures scores_after { let a = lent codes.entry scales.entry keys.entry keyed.entry held.entry alive.entry codes2.entry scales2.entry in
+    ensures answers { let a = lent codes.entry scales.entry keys.entry keyed.entry held.entry alive.entry codes2.entry scales2.entry in
         let op = Step.search_cascade (query_of query.now) k r (min (length slots.old) (length scores.old)) in
         found (found_in result answer.new) slots.new scores.new
         ≡ answer_beside op a fields.now answer.old }
-    ensures later_kept { LaterKept (word_count result) answer.old answer.new }
-    ensures fact { let m = hit_count (found_in result answer.new) in
+    ensures answer_kept { LaterKept (word_count result) answer.old answer.new }
+    ensures lists_kept { let m = hit_count (found_in result answer.new) in
         LaterKept m slots.old slots.new × LaterKept m scores.old scores.new }
 {
     let Record::Fields(index) = words::record_beside(fields, answer, 1) else {

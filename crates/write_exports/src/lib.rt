@@ -60,11 +60,11 @@ pub extern "C" fn vecq_raw_to_bytes(
     scales2: &[u32],
     file: &mut [u8],
 ) -> u8
-    ensures file_after { let a = lent codes.entry scales.entry keys.entry keyed.entry held.entry alive.entry codes2.entry scales2.entry in
+    ensures answers { let a = lent codes.entry scales.entry keys.entry keyed.entry held.entry alive.entry codes2.entry scales2.entry in
         let op = Step.write (length file.old) in
         wrote (written_in result answer.new) file.new ≡ answer_beside op a fields.now answer.old }
-    ensures later_kept { LaterKept (word_count result) answer.old answer.new }
-    ensures later_kept_2 { LaterKept (byte_count (written_in result answer.new)) file.old file.new }
+    ensures answer_kept { LaterKept (word_count result) answer.old answer.new }
+    ensures file_kept { LaterKept (byte_count (written_in result answer.new)) file.old file.new }
 {
     let Record::Fields(index) = words::record_beside(fields, answer, 1) else {
         return 13;
