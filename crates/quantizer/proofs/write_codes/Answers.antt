@@ -1,0 +1,31 @@
+use native.Mathlib.Omega.{arith}
+use lib.ListN.{get_or}
+use lib.Ieee.{nan}
+use Rattle.lloyd.proofs.Quantized.{quantized-le}
+use Rattle.quantizer.proofs.Summing.{coding-none, coding-next, coding-all}
+use Rattle.quantizer.proofs.write_codes.Goals as goal
+
+pub loop-i-init : goal.loop-i-init
+loop-i-init c = let a = c.args in coding-none a.table.now a.boundaries.now a.xs.now a.codes.now
+
+pub overflow_cast-codes : goal.overflow_cast-codes
+overflow_cast-codes c = omega (arith, c.code_of-code.ensures, quantized-le c.args.boundaries.now (get_or c.args.xs.now c.loop-i.i nan))
+
+pub offset_bounds-table-code : goal.offset_bounds-table-code
+offset_bounds-table-code c = omega (arith, c.code_of-code.ensures, quantized-le c.args.boundaries.now (get_or c.args.xs.now c.loop-i.i nan))
+
+pub bounds-table-code : goal.bounds-table-code
+bounds-table-code c = omega (arith, c.code_of-code.ensures, quantized-le c.args.boundaries.now (get_or c.args.xs.now c.loop-i.i nan))
+
+pub loop-i-preserved : goal.loop-i-preserved
+loop-i-preserved c =
+    let s = c in
+    let at = c.loop-i in
+    coding-next s.args.table.now s.args.boundaries.now s.args.xs.now s.args.codes.now at.i at.codes at.sum at.invariant
+    (omega arith) s.requires.boundaries_len_bound.2 (omega (arith, s.requires.boundaries_len_bound)) c.code_of-code.result c.code_of-code.ensures
+
+pub returns-clause-codes : goal.returns-clause-codes
+returns-clause-codes c =
+    let a = c.args in
+    let at = c.loop-i in
+    (coding-all a.table.now a.boundaries.now a.xs.now a.codes.now at.i at.codes at.sum at.invariant (omega arith)).1
