@@ -1,11 +1,11 @@
 -- Whether block, table and query fit one another: by the program's tests, and what follows.
 use mathlib.Core.Path.{◌≡◌, sym, ◌∙◌}
-use mathlib.Core.Bool.{Bool, true, false, not, ◌&&◌}
+use mathlib.Core.Bool.{Bool, true, false, ◌&&◌}
 use mathlib.Core.List.{List}
 use Prim.Native.Nat.{ℕ, ◌*◌, ◌/◌, ◌%◌, ◌^◌, ◌≤◌, ◌<◌}
 use native.Mathlib.Nat.{one-mul, mod-eq_of_lt, lt_of_le_of_lt}
 use native.Mathlib.Omega.{arith}
-use borrow.Author.Tests.{le-leb, lt-leb, eq-eqb, ne_eqb, leb-true, eqb-true, not-true, not-false}
+use borrow.Author.Tests.{le-leb, lt-leb, eq-eqb, ne_eqb, leb-true, eqb-true}
 use lib.Dec.{leb, eqb, lit<}
 use lib.Pow.{pow-lt}
 use lib.ListN.{length, get_or}
@@ -48,21 +48,21 @@ record Fit (w centroids block query : ℕ) : Type 0 where
   table : centroids ≡ 2 ^ w
   size : block ≡ bytes_per_vector w query
 
-fits : (w centroids block query : ℕ) (r : Bool) → r ≡ fitting w centroids block query → not r ≡ false → Fit w centroids block query
+fits : (w centroids block query : ℕ) (r : Bool) → r ≡ fitting w centroids block query → r ≡ true → Fit w centroids block query
 unfolding fitting
 fits w centroids block query r is n =
-    let all = both (leb 4 w && leb w 6) (eqb centroids (2 ^ w) && eqb block (bytes_per_vector w query)) (sym is ∙ not-false r n) in
+    let all = both (leb 4 w && leb w 6) (eqb centroids (2 ^ w) && eqb block (bytes_per_vector w query)) (sym is ∙ n) in
     let width = both (leb 4 w) (leb w 6) all.0 in
     let sizes = both (eqb centroids (2 ^ w)) (eqb block (bytes_per_vector w query)) all.1 in
     record { from = leb-true 4 w width.0; to = leb-true w 6 width.1; table = eqb-true centroids (2 ^ w) sizes.0; size = eqb-true block (bytes_per_vector w query) sizes.1 }
 
 -- at 4 bits every pair of the query's entries has its byte
-pub at-four : (centroids block query : ℕ) (r : Bool) → r ≡ fitting 4 centroids block query → not r ≡ false → (centroids ≡ 16) × (query / 2 ≤ block)
+pub at-four : (centroids block query : ℕ) (r : Bool) → r ≡ fitting 4 centroids block query → r ≡ true → (centroids ≡ 16) × (query / 2 ≤ block)
 unfolding bytes_per_vector
 at-four centroids block query r is n = let f = fits 4 centroids block query r is n in (f.table, omega arith)
 
 -- at any width the table has a centroid for each code
-pub at-any : (w centroids block query : ℕ) (r : Bool) → r ≡ fitting w centroids block query → not r ≡ false → (0 < w) × (w ≤ 8) × (centroids ≡ 2 ^ w)
+pub at-any : (w centroids block query : ℕ) (r : Bool) → r ≡ fitting w centroids block query → r ≡ true → (0 < w) × (w ≤ 8) × (centroids ≡ 2 ^ w)
 at-any w centroids block query r is n = let f = fits w centroids block query r is n in (omega arith, omega arith, f.table)
 
 -- of a single product
@@ -71,10 +71,10 @@ unfolding lone_product
 lone-product products x e = e
 
 module _ (sums : List Float → Float) (w : ℕ) (centroids : List Float) (block : List ℕ) (query : List Float) (r : Bool) (is : r ≡ fitting w (length centroids) (length block) (length query)) where
-  pub summed : not r ≡ false → sums (block_products w centroids block query) ≡ of_block sums w centroids block query
+  pub summed : r ≡ true → sums (block_products w centroids block query) ≡ of_block sums w centroids block query
   unfolding of_block
-  summed n = rw (sym is ∙ not-false r n)
+  summed n = rw (sym is ∙ n)
 
-  pub misfit : not r ≡ true → of_bits binary32 0 ≡ of_block sums w centroids block query
+  pub misfit : r ≡ false → of_bits binary32 0 ≡ of_block sums w centroids block query
   unfolding of_block of_bits
-  misfit n = rw (sym is ∙ not-true r n)
+  misfit n = rw (sym is ∙ n)

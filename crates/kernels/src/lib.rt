@@ -28,8 +28,8 @@ fn fitting(bits: u8, centroids: usize, block: usize, query: usize) -> bool
 
 // What byte i of a block of 4 bits a code adds: the low code's product and the high code's.
 fn byte_term(block: &[u8], query: &[f32], centroids: &[f32], i: usize) -> f32
-    requires centroids_len { (length centroids.now ≡ 16) × (length query.now / 2 ≤ length block.now) }
-    requires i_in_bounds { i < length query.now / 2 }
+    requires sizes { (length centroids.now ≡ 16) × (length query.now / 2 ≤ length block.now) }
+    requires inside { i < length query.now / 2 }
     ensures { result ≡ get_or (byte_terms centroids.now block.now query.now) i nan }
 {
     let b = block[i];
@@ -41,8 +41,8 @@ fn byte_term(block: &[u8], query: &[f32], centroids: &[f32], i: usize) -> f32
 
 // Eight running sums with eight bytes more, lane j taking byte i + j.
 fn byte_step(acc: [f32; 8], block: &[u8], query: &[f32], centroids: &[f32], i: usize) -> [f32; 8]
-    requires centroids_len { (length centroids.now ≡ 16) × (length query.now / 2 ≤ length block.now) }
-    requires i_in_bounds { i + 8 ≤ length query.now / 2 }
+    requires sizes { (length centroids.now ≡ 16) × (length query.now / 2 ≤ length block.now) }
+    requires inside { i + 8 ≤ length query.now / 2 }
     ensures { result ≡ tab (λ j. get_or acc j nan ⊕ get_or (byte_terms centroids.now block.now query.now) (i + j) nan) 8 }
 {
     [
@@ -103,8 +103,8 @@ fn score_scalar(block: &[u8], query: &[f32], centroids: &[f32]) -> f32
 
 // Entry i of the query times its code's centroid.
 fn product(block: &[u8], query: &[f32], centroids: &[f32], bits: u8, i: usize) -> f32
-    requires bits_nonzero { (0 < bits) × (bits ≤ 8) × (length centroids.now ≡ 2 ^ bits) }
-    requires i_in_bounds { i < length query.now }
+    requires sizes { (0 < bits) × (bits ≤ 8) × (length centroids.now ≡ 2 ^ bits) }
+    requires inside { i < length query.now }
     ensures { result ≡ get_or (block_products bits centroids.now block.now query.now) i nan }
 {
     let code = codes::unpack_code(block, i, bits);
