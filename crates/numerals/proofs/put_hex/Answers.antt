@@ -5,5 +5,5 @@ use Rattle.numerals.proofs.put_hex.Goals as goal
 
 pub returns : goal.returns
 returns c =
-    let called = c.hex-k in
-    put-number 16 (lit< tt) _ 16 _ _ _ _ _ _ _ (omega arith) (omega arith) (omega arith) called.ensures.1.0 called.ensures.1.1 c.put_bytes.ensures
+    let called = c.hex-k.ensures in
+    put-number 16 (lit< tt) _ 16 _ _ _ _ _ _ _ (omega arith) (omega arith) (omega arith) called.len called.digits c.put_bytes.ensures
