@@ -56,8 +56,8 @@ pub fn rotate(working_dim: usize, seed: u64, v: &[f32], out: &mut [f32])
 
 // A prepared query in the whole of out.
 fn prepare_whole(working_dim: usize, seed: u64, q: &[f32], out: &mut [f32]) -> f32
-    requires out_value { rotatable working_dim (length q.now) (length out.old) ≡ true }
-    requires out_len { length out.old ≡ padded_dim working_dim }
+    requires is_rotatable { rotatable working_dim (length q.now) (length out.old) ≡ true }
+    requires out_length { length out.old ≡ padded_dim working_dim }
     ensures rnorm { result ≡ rnorm (rotated_by working_dim seed q.now) }
     ensures prepared { out.new ≡ prepared (rotated_by working_dim seed q.now) }
 {
