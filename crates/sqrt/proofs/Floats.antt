@@ -134,7 +134,7 @@ module _ (x : Float) (held : T (fits binary32 x)) where
     of_nan = λ e. none (at-nan b (omega (arith, ap (to_bits binary32) e, nan-bits)));
     of_negative = λ h. none (at-past b b_lt (λ e. both (lt x origin) h (level e).0) (omega (arith, below-high x h)));
     of_zero = λ h. itself (at_zero b (level-bits x h));
-    of-infinity = λ e. itself (at-infinity b (ap (to_bits binary32) e ∙ infinity-bits));
+    of_infinity = λ e. itself (at-infinity b (ap (to_bits binary32) e ∙ infinity-bits));
     of_positive =
         λ h l.
         let w = between h l in

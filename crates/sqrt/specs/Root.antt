@@ -61,5 +61,5 @@ pub record SquareRoot (x r : Float) : Type 0 where
   pub of_nan : x ≡ nan → r ≡ nan
   pub of_negative : lt x (of_bits binary32 0) ≡ true → r ≡ nan
   pub of_zero : eq x (of_bits binary32 0) ≡ true → r ≡ x
-  pub of-infinity : x ≡ inf false → r ≡ x
+  pub of_infinity : x ≡ inf false → r ≡ x
   pub of_positive : lt (of_bits binary32 0) x ≡ true → lt x (inf false) ≡ true → NearestRoot (radicand (to_bits binary32 x)) (to_bits binary32 r)
