@@ -1,15 +1,15 @@
 -- The number that a run of digits stands for, and the digits of a part of a run.
-use mathlib.Core.Path.{◌≡◌, refl, sym, ap, ◌∙◌}
-use mathlib.Core.Bool.{Bool, true, false, ◌&&◌}
+use mathlib.Core.Path.{◌≡◌, refl, ap, ◌∙◌}
+use mathlib.Core.Bool.{true}
 use mathlib.Core.List.{List, [], ◌∷◌}
 use Prim.Native.Nat.{ℕ, zero, suc, ◌+◌, ◌*◌, ◌^◌, ◌≤◌, ◌<◌}
 use native.Mathlib.Nat.{lt_of_lt_of_le, le_of_suc-le-suc, mul-le-mul_right, pow-le-pow_right, pow-suc}
 use native.Mathlib.Numerals.{add-one}
 use native.Mathlib.Omega.{arith}
-use borrow.Author.Tests.{ltb-true, lt-ltb, le-ltb}
+use borrow.Author.Tests.{ltb-true}
 use lib.Dec.{ltb, lit<}
 use lib.ListN.{length, take, drop, get_or, length-drop}
-use lib.Seq.{drop-cons, drop-length, length-take-le}
+use lib.Seq.{drop-cons, length-take-le}
 use Rattle.lists.proofs.Tests.{both}
 use Rattle.values.specs.Reading.{digit_of, are_digits, value_after}
 
@@ -40,23 +40,8 @@ pub part_length : (l : List ℕ) (j k : ℕ) → j + k ≤ length l → length (
 part_length l j k h = length-take-le k (drop j l) (omega (arith, length-drop j l))
 
 module _ (l : List ℕ) (i : ℕ) (h : i < length l) where
-  digits_step : are_digits (drop i l) ≡ (ltb (digit_of (get_or l i 0)) 16 && are_digits (drop (i + 1) l))
-  digits_step = rw (add-one, drop-cons l i 0)
-
-  pub digits-on : digit_of (get_or l i 0) < 16 → are_digits (drop (i + 1) l) ≡ are_digits (drop i l)
-  digits-on d = sym (digits_step ∙ ap (λ (t : Bool). t && are_digits (drop (i + 1) l)) (lt-ltb _ _ d))
-
-  pub digits-off : 15 < digit_of (get_or l i 0) → false ≡ are_digits (drop i l)
-  digits-off d = sym (digits_step ∙ ap (λ (t : Bool). t && are_digits (drop (i + 1) l)) (le-ltb _ _ d))
-
   pub value-step : (v : ℕ) → value_after (v * 16 + digit_of (get_or l i 0)) (drop (i + 1) l) ≡ value_after v (drop i l)
   value-step v = rw (add-one, drop-cons l i 0)
-
-pub digits-end : (l : List ℕ) (i : ℕ) → length l ≡ i → true ≡ are_digits (drop i l)
-digits-end l i e = rw (← e, drop-length l)
-
-pub value-end : (l : List ℕ) (i v : ℕ) → length l ≡ i → v ≡ value_after v (drop i l)
-value-end l i v e = rw (← e, drop-length l)
 
 -- ---- i digits hold a number below 16 ^ i
 

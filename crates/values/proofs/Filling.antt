@@ -1,8 +1,7 @@
 -- A loop that reads the elements of a run into the first places of an array, whatever an element is.
-use mathlib.Core.Path.{◌≡◌, refl, ap, ap₂, ◌∙◌}
+use mathlib.Core.Path.{◌≡◌, refl, ap₂, ◌∙◌}
 use mathlib.Core.List.{List}
 use Prim.Native.Nat.{ℕ, ◌+◌, ◌≤◌, ◌<◌, zero-le}
-use native.Mathlib.Nat.{le_antisymm}
 use native.Mathlib.Omega.{arith}
 use lib.ListN.{length, set, length-set}
 use Rattle.lists.specs.Lists.{tab, over}
@@ -26,6 +25,3 @@ module _ {A : Type 0} (element : ℕ → A) (n : ℕ) (out₀ : List A) where
         long = length-set out i x ∙ f.long;
         text = ap₂ (λ (l : List A) (y : A). set l i y) f.text e ∙ over-more element i out₀ (omega arith);
       }
-
-  pub filled-all : (out : List A) (i : ℕ) → n ≤ i → Filled out i → out ≡ over (tab element n) out₀
-  filled-all out i h f = f.text ∙ ap (λ (k : ℕ). over (tab element k) out₀) (le_antisymm f.some h)

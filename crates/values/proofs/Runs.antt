@@ -1,15 +1,13 @@
 -- What it takes for a field to be a number, a vector or a run of bytes.
-use mathlib.Core.Path.{◌≡◌, refl, ap, ◌∙◌}
+use mathlib.Core.Path.{◌≡◌, refl}
 use mathlib.Core.Bool.{Bool, true, false, ◌&&◌, not, cond}
 use mathlib.Core.List.{List}
-use Prim.Native.Nat.{ℕ, ◌+◌, ◌*◌, ◌/◌, ◌%◌, ◌≤◌, ◌<◌, zero-le}
-use native.Mathlib.Nat.{mul_comm, mul-add, mul-one, mul-le-mul_left, div-mul-le_self}
+use Prim.Native.Nat.{ℕ, ◌/◌, ◌%◌, ◌≤◌, zero-le}
+use native.Mathlib.Nat.{mul_comm, div-mul-le_self}
 use native.Mathlib.Omega.{arith}
 use borrow.Author.Tests.{leb-true}
 use lib.Dec.{ltb, leb, eqb}
 use lib.ListN.{length}
-use Rattle.lists.specs.Lists.{over}
-use Rattle.values.specs.declared.Run.{Run}
 use Rattle.values.specs.Reading.{are_digits, leads_with_zero, is_number, is_dash, is_run, run, no_run, run_of, IsRun}
 use Rattle.lists.proofs.Tests.{both}
 
@@ -42,17 +40,3 @@ run_is w room f = go (is_dash f) (is_run w room f) refl
     go true r h = none
     go false true h = some h
     go false false h = none
-
--- element i of a run: all its digits are there
-pub run-element : (w room : ℕ) (f : List ℕ) (n i : ℕ) → IsRun w room f n → w ≤ 16 → i < n → (are_digits f ≡ true) × (w ≤ 16) × (w * i + w ≤ length f)
-run-element w room f n i r small h =
-    let some : 0 < n = omega arith in
-    let upto : w * (i + 1) ≤ w * n = mul-le-mul_left w (omega arith) in
-    (r.digits some, small, omega (arith, r.whole some, mul-add w i 1, mul-one w))
-
--- what is read of a field, where f is that field
-pub read_at : {A : Type 0} (elements : List ℕ → ℕ → List A) (w room : ℕ) (f f' : List ℕ) (r : Run) (d d' : List A) → f ≡ f'
-    → (r ≡ run_of w room f) × IsRun w room f r.length → d' ≡ over (elements f r.length) d
-    → (r ≡ run_of w room f') × ((d' ≡ over (elements f' r.length) d) × (r.length ≤ room))
-read_at elements w room f f' r d d' e run read =
-    (run.0 ∙ ap (run_of w room) e, (read ∙ ap (λ (g : List ℕ). over (elements g r.length) d) e, run.1.fits))

@@ -8,14 +8,14 @@ ghost use Rattle.text.specs.Fields.{field_at};
 ghost use Rattle.values.specs.Reading.{digit_of, are_digits, value_of, leads_with_zero, is_number, no_number, at_most, number_of, is_dash, is_run, run, run_of, IsRun, element_of, floats_of, bytes_of};
 
 // A number of a line: whether it can be read, and its value; 0 where it can't.
-#[derive(Drop)]
+#[derive(Clone, Copy)]
 pub struct Number {
     pub ok: bool,
     pub value: u64,
 }
 
 // A run of elements in a line: whether it can be read, and how many there are; 0 where it can't.
-#[derive(Drop)]
+#[derive(Clone, Copy)]
 pub struct Run {
     pub ok: bool,
     pub length: usize,
@@ -55,7 +55,7 @@ pub fn bytes_at(line: &[u8], i: usize, out: &mut [u8]) -> Run
 
 fn read_number(field: &[u8], most: u64) -> Number
     ensures value { result ≡ number_of most field.now }
-    ensures value_le_most { result.value ≤ most }
+    ensures bound { result.value ≤ most }
 {
     if is_number(field) {
         return at_most(value(field), most);
@@ -65,7 +65,7 @@ fn read_number(field: &[u8], most: u64) -> Number
 
 fn at_most(n: u64, most: u64) -> Number
     ensures value { result ≡ at_most most n }
-    ensures value_le_most { result.value ≤ most }
+    ensures bound { result.value ≤ most }
 {
     if n <= most {
         return Number { ok: true, value: n };
