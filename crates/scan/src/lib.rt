@@ -190,8 +190,8 @@ struct Two {
 fn lanes_five(one: &[u8], other: &[u8], query: &[f32], pairs: &[f32]) -> Two
     requires { (length query.now % 8 ≡ 0) × (length query.now / 8 * 5 ≤ length one.now)
         × (length query.now / 8 * 5 ≤ length other.now) × (2048 ≤ length pairs.now) }
-    ensures one_value { result.one ≡ wide_lanes 5 pairs.now query.now one.now }
-    ensures other_value { result.other ≡ wide_lanes 5 pairs.now query.now other.now }
+    ensures one { result.one ≡ wide_lanes 5 pairs.now query.now one.now }
+    ensures other { result.other ≡ wide_lanes 5 pairs.now query.now other.now }
 {
     let mut acc = [0.0f32; 4];
     let mut acc2 = [0.0f32; 4];
@@ -215,8 +215,8 @@ fn lanes_five(one: &[u8], other: &[u8], query: &[f32], pairs: &[f32]) -> Two
 fn lanes_six(one: &[u8], other: &[u8], query: &[f32], pairs: &[f32]) -> Two
     requires { (length query.now % 8 ≡ 0) × (length query.now / 8 * 6 ≤ length one.now)
         × (length query.now / 8 * 6 ≤ length other.now) × (8192 ≤ length pairs.now) }
-    ensures one_value { result.one ≡ wide_lanes 6 pairs.now query.now one.now }
-    ensures other_value { result.other ≡ wide_lanes 6 pairs.now query.now other.now }
+    ensures one { result.one ≡ wide_lanes 6 pairs.now query.now one.now }
+    ensures other { result.other ≡ wide_lanes 6 pairs.now query.now other.now }
 {
     let mut acc = [0.0f32; 4];
     let mut acc2 = [0.0f32; 4];
@@ -297,8 +297,8 @@ fn sum_slot(
     at: usize,
     sums: &mut [f32],
 )
-    requires size_in_bounds { (slot * size + size ≤ length codes.now) × (size % 8 ≡ 0) × (at + 8 ≤ length sums.old) }
-    requires size_in_bounds_2 { (size ≤ length evens.now) × (size ≤ length odds.now) × (512 ≤ length pairs.now) }
+    requires arrays { (slot * size + size ≤ length codes.now) × (size % 8 ≡ 0) × (at + 8 ≤ length sums.old) }
+    requires query { (size ≤ length evens.now) × (size ≤ length odds.now) × (512 ≤ length pairs.now) }
     ensures { sums.new ≡ cond (ltb 0 mark) (sets sums.old at
         (byte_lanes evens.now odds.now pairs.now (part_at size slot codes.now))) sums.old }
 {
@@ -323,8 +323,8 @@ fn sum_bytes(
     pairs: &[f32],
     sums: &mut [f32],
 )
-    requires size_in_bounds { ((first + many) * size ≤ length codes.now) × (first + many ≤ length marks.now) × (size % 8 ≡ 0) × (many * 8 ≤ length sums.old) }
-    requires size_in_bounds_2 { (size ≤ length evens.now) × (size ≤ length odds.now) × (512 ≤ length pairs.now) }
+    requires arrays { ((first + many) * size ≤ length codes.now) × (first + many ≤ length marks.now) × (size % 8 ≡ 0) × (many * 8 ≤ length sums.old) }
+    requires query { (size ≤ length evens.now) × (size ≤ length odds.now) × (512 ≤ length pairs.now) }
     ensures { Summed 8 (λ i. byte_lanes evens.now odds.now pairs.now (part_at size i codes.now))
         marks.now first many many sums.new }
 {
@@ -348,10 +348,10 @@ fn sum_bytes(
 
 // The sums of two blocks at 5 or 6 bits.
 fn two_lanes(bits: u8, one: &[u8], other: &[u8], query: &[f32], pairs: &[f32]) -> Two
-    requires le_bits { (5 ≤ bits) × (bits ≤ 6) × (2 ^ (bits + bits) * 2 ≤ length pairs.now) × (length query.now % 8 ≡ 0) }
-    requires bits_in_bounds { (length query.now / 8 * bits ≤ length one.now) × (length query.now / 8 * bits ≤ length other.now) }
-    ensures one_value { result.one ≡ wide_lanes bits pairs.now query.now one.now }
-    ensures other_value { result.other ≡ wide_lanes bits pairs.now query.now other.now }
+    requires width { (5 ≤ bits) × (bits ≤ 6) × (2 ^ (bits + bits) * 2 ≤ length pairs.now) × (length query.now % 8 ≡ 0) }
+    requires blocks { (length query.now / 8 * bits ≤ length one.now) × (length query.now / 8 * bits ≤ length other.now) }
+    ensures one { result.one ≡ wide_lanes bits pairs.now query.now one.now }
+    ensures other { result.other ≡ wide_lanes bits pairs.now query.now other.now }
 {
     if bits == 5 {
         return lanes_five(one, other, query, pairs);
@@ -382,9 +382,9 @@ fn sum_two(
     at2: usize,
     sums: &mut [f32],
 )
-    requires le_bits { (5 ≤ bits) × (bits ≤ 6) × (2 ^ (bits + bits) * 2 ≤ length pairs.now)
+    requires width { (5 ≤ bits) × (bits ≤ 6) × (2 ^ (bits + bits) * 2 ≤ length pairs.now)
         × (length query.now % 8 ≡ 0) × (length query.now / 8 * bits ≤ size) }
-    requires size_in_bounds { (one * size + size ≤ length codes.now) × (other * size + size ≤ length codes.now)
+    requires arrays { (one * size + size ≤ length codes.now) × (other * size + size ≤ length codes.now)
         × (at + 4 ≤ length sums.old) × (at2 + 4 ≤ length sums.old) }
     ensures { sums.new ≡ cond any
         (sets (sets sums.old at (wide_lanes bits pairs.now query.now (part_at size one codes.now)))
@@ -427,9 +427,9 @@ fn sum_wide(
     pairs: &[f32],
     sums: &mut [f32],
 )
-    requires le_bits { (5 ≤ bits) × (bits ≤ 6) × (2 ^ (bits + bits) * 2 ≤ length pairs.now)
+    requires width { (5 ≤ bits) × (bits ≤ 6) × (2 ^ (bits + bits) * 2 ≤ length pairs.now)
         × (length query.now % 8 ≡ 0) × (length query.now / 8 * bits ≤ size) }
-    requires size_in_bounds { ((first + many) * size ≤ length codes.now) × (first + many ≤ length marks.now) × (many * 4 ≤ length sums.old) }
+    requires arrays { ((first + many) * size ≤ length codes.now) × (first + many ≤ length marks.now) × (many * 4 ≤ length sums.old) }
     ensures { Summed 4 (λ i. wide_lanes bits pairs.now query.now (part_at size i codes.now))
         marks.now first many many sums.new }
 {
@@ -551,7 +551,7 @@ fn sum_group(
     sums: &mut [f32],
 )
     requires fit { Fit bits (length query.now) size (length evens.now) (length odds.now) (length pairs.now) }
-    requires size_in_bounds { ((first + many) * size ≤ length codes.now) × (first + many ≤ length marks.now) × (many * 8 ≤ length sums.old) }
+    requires arrays { ((first + many) * size ≤ length codes.now) × (first + many ≤ length marks.now) × (many * 8 ≤ length sums.old) }
     ensures { Raw bits (λ i. raw_by bits evens.now odds.now pairs.now query.now (part_at size i codes.now))
         marks.now first many sums.new }
 {
@@ -579,7 +579,7 @@ fn scan_groups(
     all: &mut [f32],
 )
     requires fit { Fit bits (length query.now) size (length evens.now) (length odds.now) (length pairs.now) }
-    requires size_in_bounds { (n * size ≤ length codes.now) × (n ≤ length scales.now)
+    requires arrays { (n * size ≤ length codes.now) × (n ≤ length scales.now)
         × (n ≤ length marks.now) × (n ≤ length all.old) × (2048 ≤ length sums.old) }
     ensures { Rescored
         (score_now (score_by bits evens.now odds.now pairs.now query.now size codes.now scales.now)
@@ -619,7 +619,7 @@ fn scan_fitting(
     all: &mut [f32],
 )
     requires grouped { Grouped bits (length centroids.now) (length query.now) size (length codes.now) (length scales.now) (length marks.now) n }
-    requires n_in_bounds { n ≤ length all.old }
+    requires places { n ≤ length all.old }
     ensures { Rescored (score_now (stage_of bits centroids.now query.now size codes.now scales.now)
         marks.now second) 0 n all.old all.new }
 {
