@@ -1,13 +1,13 @@
 -- Elements printed one after the other.
-use mathlib.Core.Path.{◌≡◌, refl, ap, ◌∙◌}
+use mathlib.Core.Path.{◌≡◌, refl}
 use mathlib.Core.List.{List, [], ◌∷◌, ◌++◌, append-nil, append_assoc}
-use Prim.Native.Nat.{ℕ, ◌+◌, ◌^◌, ◌≤◌, ◌<◌, zero-le}
+use Prim.Native.Nat.{ℕ, ◌+◌, ◌^◌, ◌≤◌, ◌<◌}
 use native.Mathlib.Nat.{le_antisymm}
 use native.Mathlib.Numerals.{add-one}
 use native.Mathlib.Omega.{arith}
 use lib.Dec.{lit<}
 use lib.ListN.{length, take, get_or}
-use lib.Seq.{take-suc, take-length, length-sets}
+use lib.Seq.{take-suc, take-length}
 use Rattle.io.specs.Digits.{last_digits}
 use Rattle.print.specs.Printed.{Prints}
 use Rattle.print.proofs.Places.{put_then}
@@ -26,10 +26,6 @@ module _ {A : Type 0} (w : ℕ) (number : A → ℕ) where
   pub record Printed (d : List ℕ) (at : ℕ) (xs : List A) (d' : List ℕ) (next i : ℕ) : Type 0 where
     pub some : i ≤ length xs
     pub put : Prints d at (digits_of_each w number (take i xs)) d' next
-
-  -- none yet, from the place after no bytes on
-  pub printed-none : (d : List ℕ) (at : ℕ) (xs : List A) (d' : List ℕ) (next : ℕ) → Prints d at [] d' next → Printed d' next xs d' next 0
-  printed-none d at xs d' next p = record { some = zero-le; put = record { text = refl; place = omega (arith, p.place, ap length p.text) } }
 
   -- one more, whose number is n
   pub printed-more : (d : List ℕ) (at : ℕ) (xs : List A) (z : A) (d' : List ℕ) (next i n : ℕ) (d'' : List ℕ) (after : ℕ) → 0 < w → w ≤ 16 → i < length xs → n ≡ number (get_or xs i z) → n < 16 ^ w
@@ -50,11 +46,3 @@ module _ {A : Type 0} (w : ℕ) (number : A → ℕ) where
       → Prints d at [] d' next → Printed d' next xs d'' after i → Prints d at (run_text w number xs) d'' after
   printed-all d at xs d' next d'' after i some h p q =
       put_then d at [] (run_text w number xs) d' next d'' after p (rw (le_antisymm q.some h, take-length, run-some xs some) at q.put)
-
-  pub same-long : (d : List ℕ) (at : ℕ) (xs : List A) (d' : List ℕ) (next i : ℕ) → Printed d at xs d' next i → length d' ≡ length d
-  same-long d at xs d' next i p = ap length p.put.text ∙ length-sets d at (digits_of_each w number (take i xs))
-
-  -- `-` for none
-  pub put-dash : (d : List ℕ) (at : ℕ) (xs : List A) (d' : List ℕ) (next : ℕ) → length xs ≡ 0 → Prints d at (45 ∷ []) d' next → Prints d at (run_text w number xs) d' next
-  put-dash d at [] d' next e p = p
-  put-dash d at (x ∷ xs) d' next e p = absurd (omega arith)
