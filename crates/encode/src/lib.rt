@@ -15,7 +15,7 @@ ghost use Rattle.encode.specs.Coded.{encoded_by_table};
 ghost use Rattle.encode.specs.Calls.{codable, stages, spares_after, stored_both, encodable, placed, encoded_into};
 
 // What fixes how a vector is coded, and stays while slots are in use.
-#[derive(Drop)]
+#[derive(Clone, Copy)]
 pub struct Header {
     pub dim: usize,
     pub working_dim: usize,
@@ -25,7 +25,7 @@ pub struct Header {
 }
 
 // The scales of a slot as binary32 patterns. The second is that of the residual codes, and 0 where there are none.
-#[derive(Drop)]
+#[derive(Clone, Copy)]
 pub struct Scales {
     pub scale: u32,
     pub scale2: u32,
