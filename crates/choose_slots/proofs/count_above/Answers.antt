@@ -1,0 +1,9 @@
+use native.Mathlib.Omega.{arith}
+use Rattle.choose_slots.proofs.Counting.{counted-more, counted-within}
+use Rattle.choose_slots.proofs.count_above.Goals as goal
+
+pub overflow_add-n : goal.overflow_add-n
+overflow_add-n c = omega (arith, counted-within (counted-more c.loop-i.invariant c.loop-i-test.true))
+
+pub loop-i-preserved : goal.loop-i-preserved
+loop-i-preserved c = counted-more c.loop-i.invariant c.loop-i-test.true
