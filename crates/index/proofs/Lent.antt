@@ -10,9 +10,7 @@ use Rattle.lists.specs.Lists.{over}
 use Rattle.lists.proofs.Laws.{get_d_default, length-tab, get_or-tab}
 use Rattle.lists.proofs.Front.{get_d_front, get_or-over-map, drop-over, front_rest, tab-is}
 use Rattle.index.specs.declared.Found.{Found}
-use Rattle.index.specs.declared.Found.TheVariants as Found
 use Rattle.index.specs.declared.Written.{Written}
-use Rattle.index.specs.declared.Written.TheVariants as Written
 use Rattle.index.specs.Step.{refused, hits, key_hits, bytes}
 use Rattle.index.specs.Answers.{hit_count, byte_count, first_entries, first_pairs, found, found_keyed, wrote, LaterKept}
 

@@ -18,7 +18,6 @@ use Rattle.lists.proofs.Front.{each-tab}
 use Rattle.encode.specs.Header.{block_size}
 use Rattle.index.specs.declared.Index.{Index}
 use Rattle.index.specs.declared.Made.{Made}
-use Rattle.index.specs.declared.Made.TheVariants as Made
 use Rattle.index.specs.Arrays.{Arrays}
 use Rattle.index.specs.State.{Mark, dead, unkeyed, keyed, Slot, is_live, live, capacity, state_of, record_of, overlay, with_mark}
 use Rattle.index.specs.Fit.{between, fit}

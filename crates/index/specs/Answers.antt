@@ -5,24 +5,15 @@ use Rattle.std.proofs.Math.Option.{none, some}
 use Rattle.pattern.specs.Binary32.{+0}
 use Rattle.lists.specs.Lists.{tab}
 use Rattle.score.specs.declared.Scored.{Scored}
-use Rattle.score.specs.declared.Scored.TheVariants as Scored
 use Rattle.index.specs.declared.Index.{Index}
 use Rattle.index.specs.declared.Made.{Made}
-use Rattle.index.specs.declared.Made.TheVariants as Made
 use Rattle.index.specs.declared.Added.{Added}
-use Rattle.index.specs.declared.Added.TheVariants as Added
 use Rattle.index.specs.declared.Changed.{Changed}
-use Rattle.index.specs.declared.Changed.TheVariants as Changed
 use Rattle.index.specs.declared.Asked.{Asked}
-use Rattle.index.specs.declared.Asked.TheVariants as Asked
 use Rattle.index.specs.declared.Keyed.{Keyed}
-use Rattle.index.specs.declared.Keyed.TheVariants as Keyed
 use Rattle.index.specs.declared.Held.{Held}
-use Rattle.index.specs.declared.Held.TheVariants as Held
 use Rattle.index.specs.declared.Found.{Found}
-use Rattle.index.specs.declared.Found.TheVariants as Found
 use Rattle.index.specs.declared.Written.{Written}
-use Rattle.index.specs.declared.Written.TheVariants as Written
 use Rattle.index.specs.Arrays.{Arrays}
 use Rattle.index.specs.Step.{Answer, refused, done, flag, slot, maybe_slot, maybe_key, score_is, hits, key_hits, size, bytes}
 use Rattle.index.specs.Call.{Result}

@@ -2,7 +2,6 @@
 use Rattle.std.specs.Prelude.{Bool, false, not, cond, ◌&&◌, [], ◌∷◌, ℕ, zero, suc, eqb}
 use Rattle.encode.specs.declared.Header.{Header}
 use Rattle.index.specs.declared.Made.{Made}
-use Rattle.index.specs.declared.Made.TheVariants as Made
 use Rattle.index.specs.Arrays.{Arrays}
 use Rattle.index.specs.State.{State, capacity, record_of}
 use Rattle.index.specs.Fit.{between}

@@ -1,9 +1,8 @@
 // The record of an index, the answers of its calls, what a version of a file has, and the specification that all of them cite (specs/).
-
-// What the index is beside its lent arrays. It goes in by value and comes back in the answer.
 #![tactic(auto)]
 
-#[derive(Drop)]
+// What the index is beside its lent arrays. It goes in by value and comes back in the answer.
+#[derive(Clone, Copy)]
 pub struct Index {
     pub dim: usize,
     pub working_dim: usize,
@@ -16,21 +15,21 @@ pub struct Index {
 }
 
 // Making, a width call, enabling the cascade, compaction, reading.
-#[derive(Drop)]
+#[derive(Clone, Copy)]
 pub enum Made {
     Index(Index),
     Refused(u8),
 }
 
 // The three adding calls.
-#[derive(Drop)]
+#[derive(Clone, Copy)]
 pub enum Added {
     Slot(usize, Index),
     Refused(u8),
 }
 
 // Relabelling and the two removals.
-#[derive(Drop)]
+#[derive(Clone, Copy)]
 pub enum Changed {
     Yes(Index),
     No,
@@ -38,7 +37,7 @@ pub enum Changed {
 }
 
 // Whether a key has a slot.
-#[derive(Drop)]
+#[derive(Clone, Copy)]
 pub enum Asked {
     Yes,
     No,
@@ -46,7 +45,7 @@ pub enum Asked {
 }
 
 // The key of a slot.
-#[derive(Drop)]
+#[derive(Clone, Copy)]
 pub enum Keyed {
     Key(u64),
     None,
@@ -54,7 +53,7 @@ pub enum Keyed {
 }
 
 // The slot of a key at a held position.
-#[derive(Drop)]
+#[derive(Clone, Copy)]
 pub enum Held {
     Slot(usize),
     None,
@@ -62,14 +61,14 @@ pub enum Held {
 }
 
 // How many hits stand in the lent results.
-#[derive(Drop)]
+#[derive(Clone, Copy)]
 pub enum Found {
     Hits(usize),
     Refused(u8),
 }
 
 // How many bytes stand in the lent file, or would.
-#[derive(Drop)]
+#[derive(Clone, Copy)]
 pub enum Written {
     Bytes(usize),
     Refused(u8),
@@ -77,7 +76,7 @@ pub enum Written {
 
 // What a version of the byte form has: whether it is read, how many bytes a scale takes, and whether there is a width byte, a second stage, a key table,
 // a working_dim field that counts.
-#[derive(Drop)]
+#[derive(Clone, Copy)]
 pub struct Form {
     pub known: bool,
     pub scale: u8,
