@@ -13,9 +13,7 @@ use Rattle.lists.proofs.Laws.{length-tab}
 use Rattle.lists.proofs.Entries.{first-and-later}
 use Rattle.lists.proofs.Front.{map-tab}
 use Rattle.index.specs.declared.Found.{Found}
-use Rattle.index.specs.declared.Found.TheVariants as Found
 use Rattle.index.specs.declared.Written.{Written}
-use Rattle.index.specs.declared.Written.TheVariants as Written
 use Rattle.index.specs.Step.{Answer, refused, hits, key_hits, bytes}
 use Rattle.index.specs.Answers.{hit_count, byte_count, first_entries, first_pairs, found, found_keyed, wrote, LaterKept}
 use Rattle.histories.specs.Histories.{hit_and, hits_read, read, called, Moment, arrival_then, answer, LeaveAlike}

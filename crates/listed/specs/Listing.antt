@@ -6,7 +6,6 @@ use Rattle.half.specs.Half.{narrowed}
 use Rattle.numerals.specs.Numerals.{decimal_text}
 use Rattle.encode.specs.declared.Header.{Header}
 use Rattle.index.specs.declared.Made.{Made}
-use Rattle.index.specs.declared.Made.TheVariants as Made
 use Rattle.index.specs.Arrays.{Arrays}
 use Rattle.index.specs.Step.{first_of, when}
 use Rattle.index.specs.Read.{little_endian, version_in, form_in, count_in, header_in, head_fault, stages_in, key_from, entries_in, read_refusal}
