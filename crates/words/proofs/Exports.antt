@@ -11,24 +11,15 @@ use borrow.Author.Tests.{le-ltb, ne_eqb}
 use Rattle.lists.specs.Lists.{over}
 use Rattle.encode.specs.declared.Header.{Header}
 use Rattle.score.specs.declared.Scored.{Scored}
-use Rattle.score.specs.declared.Scored.TheVariants as Scored
 use Rattle.index.specs.declared.Index.{Index}
 use Rattle.index.specs.declared.Made.{Made}
-use Rattle.index.specs.declared.Made.TheVariants as Made
 use Rattle.index.specs.declared.Added.{Added}
-use Rattle.index.specs.declared.Added.TheVariants as Added
 use Rattle.index.specs.declared.Changed.{Changed}
-use Rattle.index.specs.declared.Changed.TheVariants as Changed
 use Rattle.index.specs.declared.Asked.{Asked}
-use Rattle.index.specs.declared.Asked.TheVariants as Asked
 use Rattle.index.specs.declared.Keyed.{Keyed}
-use Rattle.index.specs.declared.Keyed.TheVariants as Keyed
 use Rattle.index.specs.declared.Held.{Held}
-use Rattle.index.specs.declared.Held.TheVariants as Held
 use Rattle.index.specs.declared.Found.{Found}
-use Rattle.index.specs.declared.Found.TheVariants as Found
 use Rattle.index.specs.declared.Written.{Written}
-use Rattle.index.specs.declared.Written.TheVariants as Written
 use Rattle.index.specs.Arrays.{Arrays}
 use Rattle.index.specs.State.{record_of}
 use Rattle.index.specs.Step.{first_of, Op, Answer, refused, flag, slot}
@@ -38,7 +29,6 @@ use Rattle.index.proofs.Refusals.{never-0}
 use Rattle.index.specs.Make.{Begun, begun, make}
 use Rattle.index.specs.Read.{state_in, read_refusal, read_unless, read_into}
 use Rattle.words.specs.declared.Record.{Record}
-use Rattle.words.specs.declared.Record.TheVariants as Record
 use Rattle.words.specs.Words.{record_words, words_of, record_in, record_beside}
 use Rattle.words.specs.Put.{Put, put, in_words, put_answer, put_made, put_found, PutBoth, put_both, put_next, put_added, put_changed}
 use Rattle.words.specs.Exports.{by_record, Left, left, leaves, left_by, makes, reads, found_in, written_in, word_count, answer_beside}

@@ -13,7 +13,6 @@ use Rattle.lists.proofs.Tests.{both}
 use Rattle.lists.proofs.Front.{over-own}
 use Rattle.index.specs.declared.Index.{Index}
 use Rattle.words.specs.declared.Record.{Record}
-use Rattle.words.specs.declared.Record.TheVariants as Record
 use Rattle.words.specs.Words.{record_words, words_of, fields_in, typed, record_in, record_beside}
 
 -- a byte fits

@@ -7,9 +7,7 @@ use lib.ListN.{length, get_or, drop}
 use borrow.Author.Tests.{le-ltb, lt-ltb}
 use Rattle.lists.specs.Lists.{over}
 use Rattle.index.specs.declared.Found.{Found}
-use Rattle.index.specs.declared.Found.TheVariants as Found
 use Rattle.index.specs.declared.Written.{Written}
-use Rattle.index.specs.declared.Written.TheVariants as Written
 use Rattle.index.specs.Step.{refused}
 use Rattle.index.specs.Answers.{length_is, LaterKept}
 use Rattle.words.specs.Put.{Put, put, put_words, put_answer, put_found}

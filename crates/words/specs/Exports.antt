@@ -5,16 +5,13 @@ use Rattle.lists.specs.Lists.{over}
 use Rattle.encode.specs.declared.Header.{Header}
 use Rattle.index.specs.declared.Index.{Index}
 use Rattle.index.specs.declared.Found.{Found}
-use Rattle.index.specs.declared.Found.TheVariants as Found
 use Rattle.index.specs.declared.Written.{Written}
-use Rattle.index.specs.declared.Written.TheVariants as Written
 use Rattle.index.specs.Arrays.{Arrays}
 use Rattle.index.specs.Step.{Op, Answer, refused}
 use Rattle.index.specs.Call.{Result, call}
 use Rattle.index.specs.Make.{make}
 use Rattle.index.specs.Read.{read_into}
 use Rattle.words.specs.declared.Record.{Record}
-use Rattle.words.specs.declared.Record.TheVariants as Record
 use Rattle.words.specs.Words.{words_of, record_beside}
 use Rattle.words.specs.Put.{in_words, put_made}
 

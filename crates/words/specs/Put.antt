@@ -7,13 +7,9 @@ use Rattle.lists.specs.Lists.{over}
 use Rattle.lists.specs.Keep.{bit}
 use Rattle.index.specs.declared.Index.{Index}
 use Rattle.index.specs.declared.Made.{Made}
-use Rattle.index.specs.declared.Made.TheVariants as Made
 use Rattle.index.specs.declared.Added.{Added}
-use Rattle.index.specs.declared.Added.TheVariants as Added
 use Rattle.index.specs.declared.Changed.{Changed}
-use Rattle.index.specs.declared.Changed.TheVariants as Changed
 use Rattle.index.specs.declared.Found.{Found}
-use Rattle.index.specs.declared.Found.TheVariants as Found
 use Rattle.index.specs.Step.{Answer, refused, done, flag, slot, maybe_slot, maybe_key, score_is, hits, key_hits, size, bytes}
 use Rattle.words.specs.Words.{record_words, words_of}
 

@@ -3,7 +3,6 @@ use Rattle.std.specs.Prelude.{Bool, cond, ◌&&◌, List, [], ◌∷◌, ℕ, le
 use Rattle.lists.specs.Keep.{bit}
 use Rattle.index.specs.declared.Index.{Index}
 use Rattle.words.specs.declared.Record.{Record}
-use Rattle.words.specs.declared.Record.TheVariants as Record
 
 -- how many words that is
 abbrev pub record_words : ℕ
