@@ -28,7 +28,7 @@ module _ {even odd : List ℕ} {n : ℕ} (p : Pairs even odd n) where
         even-room = omega (arith, p.even-room);
         odd-room = omega (arith, p.odd-room);
         even-low = λ i k. p.even-low i (omega arith);
-        odd_low = λ i k. p.odd_low i (omega arith);
+        odd-low = λ i k. p.odd-low i (omega arith);
       }
 
   pub byte_low : (block : List ℕ) → Below 256 block → (i : ℕ) → i < n → byte_apart even odd block i ≤ 6
@@ -38,7 +38,7 @@ module _ {even odd : List ℕ} {n : ℕ} (p : Pairs even odd n) where
       omega (
         arith,
         apart_low (get_or even i 0) (b % 16 / 4) (p.even-low i l) (omega arith),
-        apart_low (get_or odd i 0) (b / 64) (p.odd_low i l) (omega (arith, bytes i)),
+        apart_low (get_or odd i 0) (b / 64) (p.odd-low i l) (omega (arith, bytes i)),
       )
 
   pub bytes_most : (block : List ℕ) → Below 256 block → {sum i : ℕ} → Gained (byte_apart even odd block) 0 n sum i → sum ≤ 6 * i
@@ -114,7 +114,7 @@ split-tops tops even-old even odd-old odd lanes low k l e o =
             even-room = k;
             odd-room = l;
             even-low = λ i h. rw (evens i h) (low (i * 2) (omega arith));
-            odd_low = λ i h. rw (odds i h) (low (i * 2 + 1) (omega arith));
+            odd-low = λ i h. rw (odds i h) (low (i * 2 + 1) (omega arith));
           };
       evens = evens;
       odds = odds;

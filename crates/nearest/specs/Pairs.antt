@@ -10,7 +10,7 @@ pub record Pairs (even odd : List ℕ) (n : ℕ) : Type 0 where
   pub even-room : n ≤ length even
   pub odd-room : n ≤ length odd
   pub even-low : Low even n
-  pub odd_low : Low odd n
+  pub odd-low : Low odd n
 
 -- they are those of the first lanes
 pub record Split (tops even odd : List ℕ) (n : ℕ) : Type 0 where

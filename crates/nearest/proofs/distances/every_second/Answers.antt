@@ -1,0 +1,8 @@
+use Rattle.lists.proofs.Writing.{written_none, written-more}
+use Rattle.nearest.proofs.distances.every_second.Goals as goal
+
+pub loop-i-init : goal.loop-i-init
+loop-i-init c = written_none _ _ _ c.requires.2
+
+pub loop-i-preserved : goal.loop-i-preserved
+loop-i-preserved c = written-more _ _ _ c.requires.2 c.loop-i.invariant c.loop-i-test.true

@@ -1,0 +1,31 @@
+use mathlib.Core.Path.{◌≡◌, ap}
+use Prim.Native.Nat.{ℕ, ◌/◌, ◌≤◌}
+use native.Mathlib.Omega.{arith}
+use mathlib.Core.List.{List}
+use lib.ListN.{length, get_or}
+use lib.Ieee.{Float, nan}
+use Rattle.pattern.specs.Binary32.{◌⊗◌}
+use Rattle.lloyd.specs.Quantizer.{quantized}
+use Rattle.lloyd.proofs.Quantized.{quantized-le}
+use Rattle.lists.proofs.Writing.{written_none, written-more}
+use Rattle.nearest.specs.Lanes.{top_of}
+use Rattle.nearest.proofs.distances.write_tops.Goals as goal
+
+code-low : (bs : List Float) (x : Float) {code : ℕ} → length bs ≤ 15 → code ≡ quantized bs x → code ≤ 15
+code-low bs x few e = omega (arith, quantized-le bs x)
+
+top-of : (bs : List Float) (r x : Float) {code : ℕ} → code ≡ quantized bs (x ⊗ r) → code / 4 ≡ top_of bs r x
+unfolding top_of
+top-of bs r x e = ap (λ (n : ℕ). n / 4) e
+
+pub loop-i-init : goal.loop-i-init
+loop-i-init c = written_none _ _ _ c.requires.2
+
+pub overflow_cast-tops : goal.overflow_cast-tops
+overflow_cast-tops c =
+    omega (arith, code-low c.args.boundaries.now (get_or c.args.query.now c.loop-i.i nan ⊗ c.args.rnorm) c.requires.0 c.quantize_in.ensures)
+
+pub loop-i-preserved : goal.loop-i-preserved
+loop-i-preserved c =
+    let top = top-of c.args.boundaries.now c.args.rnorm (get_or c.args.query.now c.loop-i.i nan) c.quantize_in.ensures in
+    rw top (written-more _ _ _ c.requires.2 c.loop-i.invariant c.loop-i-test.true)
