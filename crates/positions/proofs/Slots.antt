@@ -41,6 +41,7 @@ module _ {X : Type 0} (f : ℕ → X) where
       mem-last (x ∷ xs) = Memᴰ.tail (mem-last xs)
 
       mem-early : {x : X} (xs : List X) → Memᴰ x xs → Memᴰ x (xs ++ (f n ∷ []))
+      mem-early [] m = elim m [ ]
       mem-early (y ∷ ys) (Memᴰ.head e) = Memᴰ.head e
       mem-early (y ∷ ys) (Memᴰ.tail m) = Memᴰ.tail (mem-early ys m)
 

@@ -25,7 +25,7 @@ root-low roots key position h = omega (arith, and_le_r (mixed key + position) (r
 pub root-fits : (m position : ℕ) → m < 2 ^ 64 → position < 2 ^ 32 → m / 0x8000 + position < 2 ^ 64
 root-fits m position h l = omega arith
 
-pub reaches-kept : {roots j bits place : ℕ} {tree tree' : List ℕ} → Keeps tree tree' → Reaches roots tree j bits place → Reaches roots tree' j bits place
+pub reaches-kept : {roots j : ℕ} {tree tree' : List ℕ} {bits place : ℕ} → Keeps tree tree' → Reaches roots tree j bits place → Reaches roots tree' j bits place
 reaches-kept k (here e) = here (k _ _ e)
 reaches-kept k (further e r) = further (k _ _ e) (reaches-kept k r)
 

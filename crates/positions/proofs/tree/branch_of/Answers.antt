@@ -1,0 +1,6 @@
+use Rattle.positions.specs.Tree.{branch}
+use Rattle.positions.proofs.tree.branch_of.Goals as goal
+
+pub returns : goal.returns
+unfolding branch
+returns c = rw c.wide.ensures.0
