@@ -23,7 +23,7 @@ overflow_sub-t c =
 pub slot_after-end-requires : goal.slot_after-end-requires
 slot_after-end-requires c =
     let small : Each (λ o. o ≤ 4294967295) c.args.orders.now = each-get_or (λ (o : ℕ). o ≤ 4294967295) 0 c.args.orders.now (λ i h. omega (arith, c.type_inv.orders i)) in
-    end-there c.args.orders.now (length c.args.slots.now) c.nth_highest-t.result c.requires.1 c.requires.2 c.nth_highest-t.ensures 4294967295 (small)
+    end-there c.args.orders.now (length c.args.slots.now) c.nth_highest-t.result c.requires.1 c.requires.2 c.nth_highest-t.ensures 4294967295 small
 
 pub overflow_sub-t-2 : goal.overflow_sub-t-2
 overflow_sub-t-2 c =
@@ -39,7 +39,7 @@ slot_after-start-requires c =
     let small : Each (λ o. o ≤ 4294967295) c.args.orders.now = each-get_or (λ (o : ℕ). o ≤ 4294967295) 0 c.args.orders.now (λ i h. omega (arith, c.type_inv.orders i)) in
     rw (sub-zero c.slot_after-end.result, displaced)
     (start-there c.args.orders.now (length c.args.slots.now) c.nth_highest-t.result c.requires.1 c.requires.2 c.nth_highest-t.ensures 4294967295
-    (small) c.slot_after-end.result c.slot_after-end.ensures.1)
+    small c.slot_after-end.result c.slot_after-end.ensures.1)
 
 pub gather_between-requires : goal.gather_between-requires
 gather_between-requires c =

@@ -10,4 +10,4 @@ unfolding square_root
 returns c =
     let is-root : c.from_bits.result ≡ square_root c.args.x = cc in
     let x = c.args.x in
-    subst (λ (y : Float). SquareRoot x y) (sym (is-root)) (square-root x (subst T (sym c.well_formed.0.1) tt))
+    subst (λ (y : Float). SquareRoot x y) (sym is-root) (square-root x (subst T (sym c.well_formed.0.1) tt))
