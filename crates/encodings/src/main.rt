@@ -23,12 +23,14 @@ ghost use Rattle.std.specs.Prelude.{◌≡◌, ◌≤◌, ◌<◌, length};
 
 use encode::{Header, Scales};
 use score::Scored;
+use std::io::Read;
 use values::Run;
 
-fn main() {
+fn main(rt: HostRuntime) {
+    let mut reader = rt.stdin();
     let mut buf = input();
     let mut out = output();
-    run(&mut buf, &mut out);
+    run(&mut reader, &mut buf, &mut out);
 }
 
 // As long as the longest line that is read, 140,000 bytes, and its newline.
@@ -50,12 +52,12 @@ fn bytes() -> [u8; 4096] {
 }
 
 // Answers line after line.
-fn run(buf: &mut [u8], out: &mut [u8]) {
-    let mut cursor = lines::next_line(buf, lines::START);
+fn run<R: Read>(reader: &mut R, buf: &mut [u8], out: &mut [u8]) {
+    let mut cursor = lines::next_line(reader, buf, lines::START);
     while 0 < cursor.left {
         let n = answer(lines::line(buf, cursor), cursor.long, out);
         print::print_line(out, n);
-        cursor = lines::next_line(buf, cursor);
+        cursor = lines::next_line(reader, buf, cursor);
     }
 }
 
