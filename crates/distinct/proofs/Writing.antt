@@ -92,10 +92,10 @@ over-added f list false name score old places room e = rw (append-nil list) e
 
 module _ (mark : Bool) (name : ℕ) (score : Float) (many : ℕ) (names : List ℕ) (scores : List Float) where
   pub put-marked : mark ≡ true → (word : ℕ) → word ≡ name → PutsHit mark name score many names scores (many + 1) (set names many word) (set scores many score)
-  put-marked e word q = record { many_is = rw e; names-are = rw (e, q); scores-are = rw e }
+  put-marked e word q = record { many-is = rw e; names-are = rw (e, q); scores-are = rw e }
 
   pub put-none : mark ≡ false → PutsHit mark name score many names scores many names scores
-  put-none e = record { many_is = rw e (sym (add-zero many)); names-are = rw e; scores-are = rw e }
+  put-none e = record { many-is = rw e (sym (add-zero many)); names-are = rw e; scores-are = rw e }
 
 -- the first i of n places are written
 pub record Writing (keys : List ℕ) (keyed : List Bool) (slots : List ℕ) (hits : List Float) (before : List ℕ) (n : ℕ) (names₀ : List ℕ) (scores₀ : List Float)
@@ -108,11 +108,11 @@ pub record Writing (keys : List ℕ) (keyed : List Bool) (slots : List ℕ) (hit
 module _ (keys : List ℕ) (keyed : List Bool) (slots : List ℕ) (hits : List Float) (before : List ℕ) (n : ℕ) (names₀ : List ℕ) (scores₀ : List Float) where
   pub writing-none : Writing keys keyed slots hits before n names₀ scores₀ 0 names₀ scores₀ 0
   unfolding over firsts_list
-  writing-none = record { few = omega arith; listed = record { many_is = refl; names-are = refl; scores-are = refl }; names_same = refl; scores-same = refl }
+  writing-none = record { few = omega arith; listed = record { many-is = refl; names-are = refl; scores-are = refl }; names_same = refl; scores-same = refl }
 
   module _ {many : ℕ} {names : List ℕ} {scores : List Float} {i : ℕ} (m : Writing keys keyed slots hits before n names₀ scores₀ many names scores i) where
     pub writing-few : many ≤ i
-    writing-few = omega (arith, m.listed.many_is, firsts-few keys keyed slots hits before i)
+    writing-few = omega (arith, m.listed.many-is, firsts-few keys keyed slots hits before i)
 
     module _ (l : i < n) (h : n ≤ length names₀) (k : n ≤ length scores₀) where
       abbrev list : List (ℕ × Float)
@@ -130,9 +130,9 @@ module _ (keys : List ℕ) (keyed : List Bool) (slots : List ℕ) (hits : List F
       listed_more : (r : ℕ) (names' : List ℕ) (scores' : List Float) → PutsHit mark name score many names scores r names' scores' → Listed (list ++ added mark name score) names₀ scores₀ r names' scores'
       listed_more r names' scores' p =
           let room = firsts-few keys keyed slots hits before i in
-          let e = m.listed.many_is in
+          let e = m.listed.many-is in
           record {
-            many_is = omega (arith, p.many_is, e, length-append list (added mark name score), added-length mark name score);
+            many-is = omega (arith, p.many-is, e, length-append list (added mark name score), added-length mark name score);
             names-are = p.names-are ∙ rw e (over-added (λ e. e.0) list mark name score names₀ names (omega (arith, room)) m.listed.names-are);
             scores-are = p.scores-are ∙ rw e (over-added (λ e. e.1) list mark name score scores₀ scores (omega (arith, room)) m.listed.scores-are);
           }
@@ -185,7 +185,7 @@ module _ (keys : List ℕ) (keyed : List Bool) (slots : List ℕ) (hits : List F
 
     pub shown-all : n ≤ 65536 → n ≤ length names₀ → n ≤ length scores₀ → (many : ℕ) (names : List ℕ) (scores : List Float) →
         Listed (keyed_to keys keyed slots hits n) names₀ scores₀ many names scores → Shown many names scores
-    shown-all few l k many names scores t = rw (shown-keyed few l k) (t.many_is, (t.names-are, t.scores-are))
+    shown-all few l k many names scores t = rw (shown-keyed few l k) (t.many-is, (t.names-are, t.scores-are))
 
 -- ---- a list that equals another
 

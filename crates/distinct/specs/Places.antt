@@ -25,13 +25,13 @@ module _ (keys : List ℕ) (keyed : List Bool) (slots : List ℕ) (scores : List
 
 -- the keys and the scores of a keyed list over the first places of the results, and how many there are
 pub record Listed (list : List (ℕ × Float)) (names₀ : List ℕ) (scores₀ : List Float) (many : ℕ) (names : List ℕ) (scores : List Float) : Type 0 where
-  pub many_is : many ≡ length list
+  pub many-is : many ≡ length list
   pub names-are : names ≡ over (map (λ (e : ℕ × Float). e.0) list) names₀
   pub scores-are : scores ≡ over (map (λ (e : ℕ × Float). e.1) list) scores₀
 
 -- one entry more in the results where the mark is set
 pub record PutsHit (mark : Bool) (name : ℕ) (score : Float) (many : ℕ) (names₀ : List ℕ) (scores₀ : List Float)
     (r : ℕ) (names : List ℕ) (scores : List Float) : Type 0 where
-  pub many_is : r ≡ many + bit mark
+  pub many-is : r ≡ many + bit mark
   pub names-are : names ≡ cond mark (set names₀ many name) names₀
   pub scores-are : scores ≡ cond mark (set scores₀ many score) scores₀

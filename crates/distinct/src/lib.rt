@@ -38,8 +38,8 @@ fn write_place(
     place: usize,
     many: usize,
 ) -> usize
-    requires place_in_bounds { (place < length slots.now) × (place < length hits.now) × (place < length before.now) }
-    requires place_in_bounds_2 { (place < length names.old) × (place < length scores.old) × (many ≤ place) }
+    requires lists { (place < length slots.now) × (place < length hits.now) × (place < length before.now) }
+    requires room { (place < length names.old) × (place < length scores.old) × (many ≤ place) }
     ensures { PutsHit (first_by keyed.now slots.now before.now place)
         (place_word keys.now slots.now place) (get_or hits.now place nan) many
         names.old scores.old result names.new scores.new }
@@ -63,8 +63,8 @@ fn write_firsts(
     scores: &mut [f32],
     n: usize,
 ) -> usize
-    requires n_in_bounds { (n ≤ length slots.now) × (n ≤ length hits.now) × (n ≤ length before.now) }
-    requires n_in_bounds_2 { (n ≤ length names.old) × (n ≤ length scores.old) }
+    requires lists { (n ≤ length slots.now) × (n ≤ length hits.now) × (n ≤ length before.now) }
+    requires room { (n ≤ length names.old) × (n ≤ length scores.old) }
     ensures { Listed
         (firsts_list keys.now keyed.now slots.now hits.now before.now n)
         names.old scores.old result names.new scores.new }
@@ -93,8 +93,8 @@ fn list_places(
     scores: &mut [f32],
     n: usize,
 ) -> usize
-    requires n_in_bounds { (n ≤ length slots.now) × (n ≤ length hits.now) × (n ≤ 65536) }
-    requires n_in_bounds_2 { (n ≤ length names.old) × (n ≤ length scores.old) }
+    requires lists { (n ≤ length slots.now) × (n ≤ length hits.now) × (n ≤ 65536) }
+    requires room { (n ≤ length names.old) × (n ≤ length scores.old) }
     ensures { Listed (keyed_to keys.now keyed.now slots.now hits.now n)
         names.old scores.old result names.new scores.new }
 {
@@ -123,7 +123,7 @@ pub fn list_keys(
     names: &mut [u64],
     scores: &mut [f32],
 ) -> usize
-    ensures value { result ≡ length (keyed_shown keys.now keyed.now slots.now hits.now
+    ensures many { result ≡ length (keyed_shown keys.now keyed.now slots.now hits.now
         (min (length names.old) (length scores.old))) }
     ensures names_after { names.new ≡ over (map (λ e. e.0) (keyed_shown keys.now keyed.now slots.now hits.now
         (min (length names.old) (length scores.old)))) names.old }
