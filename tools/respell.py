@@ -12,7 +12,8 @@ import os
 import re
 import sys
 
-START = r"(?<![\w'₀-₉-])"
+# (a byte such as b'A' is no name)
+START = r"(?<![\w'₀-₉-])(?!b'.')"
 TOKEN = re.compile(START + r"[A-Za-z_][\w'₀-₉]*(?:-[\w'₀-₉]+)*")
 
 # Facts that had a word's spelling, and a word that had a fact's.

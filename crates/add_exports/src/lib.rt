@@ -24,9 +24,9 @@ pub extern "C" fn vecq_raw_add(
     vector: &[f32],
 ) -> u8
     ensures { left result fields.new answer.new
-        (lent codes.exit scales.exit keys.exit keyed.exit held.exit alive.exit codes2.exit scales2.exit)
+        (lent codes.new scales.new keys.new keyed.new held.new alive.new codes2.new scales2.new)
         ≡ left_by 1 (Step.add (item_of vector.now)) fields.old answer.old
-        (lent codes.entry scales.entry keys.entry keyed.entry held.entry alive.entry codes2.entry scales2.entry) }
+        (lent codes.old scales.old keys.old keyed.old held.old alive.old codes2.old scales2.old) }
 {
     let Record::Fields(index) = words::record_beside(fields, answer, 1) else {
         return 13;

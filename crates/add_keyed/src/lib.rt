@@ -25,8 +25,8 @@ pub fn add_keyed(
     key: u64,
     vector: &[f32],
 ) -> Added
-    ensures { added index result (lent codes.exit scales.exit keys.exit keyed.exit held.exit alive.exit codes2.exit scales2.exit)
-        ≡ call index (lent codes.entry scales.entry keys.entry keyed.entry held.entry alive.entry codes2.entry scales2.entry)
+    ensures { added index result (lent codes.new scales.new keys.new keyed.new held.new alive.new codes2.new scales2.new)
+        ≡ call index (lent codes.old scales.old keys.old keyed.old held.old alive.old codes2.old scales2.old)
         (Step.add_keyed key (item_of vector.now)) }
 {
     place::put(

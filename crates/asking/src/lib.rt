@@ -39,7 +39,7 @@ pub fn places_fault(
     slots: usize,
     scores: usize,
 ) -> u8
-    ensures { result ≡ places_fault index (lent codes.entry scales.entry keys.entry keyed.entry held.entry alive.entry codes2.entry scales2.entry)
+    ensures { result ≡ places_fault index (lent codes.now scales.now keys.now keyed.now held.now alive.now codes2.now scales2.now)
         k (min slots scores) }
 {
     if !fit::fits(
@@ -73,7 +73,7 @@ pub fn search_fault(
     slots: usize,
     scores: usize,
 ) -> u8
-    ensures { result ≡ search_fault index (lent codes.entry scales.entry keys.entry keyed.entry held.entry alive.entry codes2.entry scales2.entry)
+    ensures { result ≡ search_fault index (lent codes.now scales.now keys.now keyed.now held.now alive.now codes2.now scales2.now)
         (query_of query.now) k (min slots scores) }
 {
     let fault = places_fault(

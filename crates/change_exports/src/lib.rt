@@ -25,9 +25,9 @@ pub extern "C" fn vecq_raw_relabel(
     new: u64,
 ) -> u8
     ensures { left result fields.new answer.new
-        (lent codes.entry scales.entry keys.exit keyed.entry held.entry alive.entry codes2.entry scales2.entry)
+        (lent codes.now scales.now keys.new keyed.now held.now alive.now codes2.now scales2.now)
         ≡ left_by 1 (Step.relabel old new) fields.old answer.old
-        (lent codes.entry scales.entry keys.entry keyed.entry held.entry alive.entry codes2.entry scales2.entry) }
+        (lent codes.now scales.now keys.old keyed.now held.now alive.now codes2.now scales2.now) }
 {
     let Record::Fields(index) = words::record_beside(fields, answer, 1) else {
         return 13;
@@ -53,9 +53,9 @@ pub extern "C" fn vecq_raw_remove_keyed(
     key: u64,
 ) -> u8
     ensures { left result fields.new answer.new
-        (lent codes.entry scales.entry keys.entry keyed.exit held.exit alive.exit codes2.entry scales2.entry)
+        (lent codes.now scales.now keys.now keyed.new held.new alive.new codes2.now scales2.now)
         ≡ left_by 1 (Step.remove key) fields.old answer.old
-        (lent codes.entry scales.entry keys.entry keyed.entry held.entry alive.entry codes2.entry scales2.entry) }
+        (lent codes.now scales.now keys.now keyed.old held.old alive.old codes2.now scales2.now) }
 {
     let Record::Fields(index) = words::record_beside(fields, answer, 1) else {
         return 13;
@@ -82,9 +82,9 @@ pub extern "C" fn vecq_raw_remove_keyed_at(
     slot: usize,
 ) -> u8
     ensures { left result fields.new answer.new
-        (lent codes.entry scales.entry keys.entry keyed.exit held.exit alive.exit codes2.entry scales2.entry)
+        (lent codes.now scales.now keys.now keyed.new held.new alive.new codes2.now scales2.now)
         ≡ left_by 1 (Step.remove_at key slot) fields.old answer.old
-        (lent codes.entry scales.entry keys.entry keyed.entry held.entry alive.entry codes2.entry scales2.entry) }
+        (lent codes.now scales.now keys.now keyed.old held.old alive.old codes2.now scales2.now) }
 {
     let Record::Fields(index) = words::record_beside(fields, answer, 1) else {
         return 13;

@@ -160,8 +160,8 @@ pub fn compact(
     codes2: &mut [u8],
     scales2: &mut [u32],
 ) -> Made
-    ensures { made index result (lent codes.exit scales.exit keys.exit keyed.exit held.exit alive.exit codes2.exit scales2.exit)
-        ≡ call index (lent codes.entry scales.entry keys.entry keyed.entry held.entry alive.entry codes2.entry scales2.entry)
+    ensures { made index result (lent codes.new scales.new keys.new keyed.new held.new alive.new codes2.new scales2.new)
+        ≡ call index (lent codes.old scales.old keys.old keyed.old held.old alive.old codes2.old scales2.old)
         Step.compact }
 {
     if fit::fits(

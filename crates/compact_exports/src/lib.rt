@@ -21,9 +21,9 @@ pub extern "C" fn vecq_raw_compact(
     scales2: &mut [u32],
 ) -> u8
     ensures { left result fields.new []
-        (lent codes.exit scales.exit keys.exit keyed.exit held.exit alive.exit codes2.exit scales2.exit)
+        (lent codes.new scales.new keys.new keyed.new held.new alive.new codes2.new scales2.new)
         ≡ left_by 0 compact fields.old []
-        (lent codes.entry scales.entry keys.entry keyed.entry held.entry alive.entry codes2.entry scales2.entry) }
+        (lent codes.old scales.old keys.old keyed.old held.old alive.old codes2.old scales2.old) }
 {
     let Record::Fields(index) = words::record_in(fields) else {
         return 13;

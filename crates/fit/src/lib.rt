@@ -103,7 +103,7 @@ pub fn fits(
     codes2: &[u8],
     scales2: &[u32],
 ) -> bool
-    ensures { result ≡ fit index (lent codes.entry scales.entry keys.entry keyed.entry held.entry alive.entry codes2.entry scales2.entry) }
+    ensures { result ≡ fit index (lent codes.now scales.now keys.now keyed.now held.now alive.now codes2.now scales2.now) }
 {
     if fields_fit(index) {
         let n = index.n;

@@ -12,7 +12,6 @@
 --
 -- and codes2, scales2 as codes, scales where the index is residual.
 use Rattle.std.specs.Prelude.{Bool, List, ℕ}
-use Rattle.std.specs.Borrow.{Bor}
 
 -- what they hold
 pub record Arrays : Type 0 where
@@ -25,6 +24,5 @@ pub record Arrays : Type 0 where
   pub codes2 : List ℕ
   pub scales2 : List ℕ
 
-abbrev pub lent : Bor (List ℕ) → Bor (List ℕ) → Bor (List ℕ) → Bor (List Bool) → Bor (List ℕ) → Bor (List ℕ) → Bor (List ℕ) → Bor (List ℕ) → Arrays
-lent a b c d e f g h =
-    record { codes = a.now; scales = b.now; keys = c.now; keyed = d.now; held = e.now; alive = f.now; codes2 = g.now; scales2 = h.now }
+abbrev pub lent : List ℕ → List ℕ → List ℕ → List Bool → List ℕ → List ℕ → List ℕ → List ℕ → Arrays
+lent a b c d e f g h = record { codes = a; scales = b; keys = c; keyed = d; held = e; alive = f; codes2 = g; scales2 = h }

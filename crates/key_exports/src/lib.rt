@@ -69,7 +69,7 @@ pub extern "C" fn vecq_raw_key_of(
     scales2: &[u32],
     slot: usize,
 ) -> u8
-    ensures { let a = lent codes.entry scales.entry keys.entry keyed.entry held.entry alive.entry codes2.entry scales2.entry in
+    ensures { let a = lent codes.now scales.now keys.now keyed.now held.now alive.now codes2.now scales2.now in
         left result fields.now answer.new a ≡ left_by 2 (key_of slot) fields.now answer.old a }
 {
     let Record::Fields(index) = words::record_beside(fields, answer, 2) else {
@@ -96,7 +96,7 @@ pub extern "C" fn vecq_raw_contains_key(
     scales2: &[u32],
     key: u64,
 ) -> u8
-    ensures { let a = lent codes.entry scales.entry keys.entry keyed.entry held.entry alive.entry codes2.entry scales2.entry in
+    ensures { let a = lent codes.now scales.now keys.now keyed.now held.now alive.now codes2.now scales2.now in
         left result fields.now answer.new a ≡ left_by 1 (contains key) fields.now answer.old a }
 {
     let Record::Fields(index) = words::record_beside(fields, answer, 1) else {
@@ -124,7 +124,7 @@ pub extern "C" fn vecq_raw_slot_at(
     key: u64,
     position: usize,
 ) -> u8
-    ensures { let a = lent codes.entry scales.entry keys.entry keyed.entry held.entry alive.entry codes2.entry scales2.entry in
+    ensures { let a = lent codes.now scales.now keys.now keyed.now held.now alive.now codes2.now scales2.now in
         left result fields.now answer.new a ≡ left_by 2 (slot_of key position) fields.now answer.old a }
 {
     let Record::Fields(index) = words::record_beside(fields, answer, 2) else {

@@ -23,8 +23,8 @@ pub fn key_of(
     scales2: &[u32],
     slot: usize,
 ) -> Keyed
-    ensures { result_of index (lent codes.entry scales.entry keys.entry keyed.entry held.entry alive.entry codes2.entry scales2.entry) (key_is result)
-        ≡ call index (lent codes.entry scales.entry keys.entry keyed.entry held.entry alive.entry codes2.entry scales2.entry)
+    ensures { result_of index (lent codes.now scales.now keys.now keyed.now held.now alive.now codes2.now scales2.now) (key_is result)
+        ≡ call index (lent codes.now scales.now keys.now keyed.now held.now alive.now codes2.now scales2.now)
         (key_of slot) }
 {
     if !fit::fits(
@@ -55,8 +55,8 @@ pub fn contains_key(
     scales2: &[u32],
     key: u64,
 ) -> Asked
-    ensures { result_of index (lent codes.entry scales.entry keys.entry keyed.entry held.entry alive.entry codes2.entry scales2.entry) (asked result)
-        ≡ call index (lent codes.entry scales.entry keys.entry keyed.entry held.entry alive.entry codes2.entry scales2.entry)
+    ensures { result_of index (lent codes.now scales.now keys.now keyed.now held.now alive.now codes2.now scales2.now) (asked result)
+        ≡ call index (lent codes.now scales.now keys.now keyed.now held.now alive.now codes2.now scales2.now)
         (contains key) }
 {
     if !fit::fits(
@@ -85,8 +85,8 @@ pub fn slot_at(
     key: u64,
     position: usize,
 ) -> Held
-    ensures { result_of index (lent codes.entry scales.entry keys.entry keyed.entry held.entry alive.entry codes2.entry scales2.entry) (held_is result)
-        ≡ call index (lent codes.entry scales.entry keys.entry keyed.entry held.entry alive.entry codes2.entry scales2.entry)
+    ensures { result_of index (lent codes.now scales.now keys.now keyed.now held.now alive.now codes2.now scales2.now) (held_is result)
+        ≡ call index (lent codes.now scales.now keys.now keyed.now held.now alive.now codes2.now scales2.now)
         (slot_of key position) }
 {
     if !fit::fits(

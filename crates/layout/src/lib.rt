@@ -110,9 +110,9 @@ pub fn file_length(
     codes2: &[u8],
     scales2: &[u32],
 ) -> Written
-    ensures { result_of index (lent codes.entry scales.entry keys.entry keyed.entry held.entry alive.entry codes2.entry scales2.entry)
+    ensures { result_of index (lent codes.now scales.now keys.now keyed.now held.now alive.now codes2.now scales2.now)
         (length_is result)
-        ≡ call index (lent codes.entry scales.entry keys.entry keyed.entry held.entry alive.entry codes2.entry scales2.entry)
+        ≡ call index (lent codes.now scales.now keys.now keyed.now held.now alive.now codes2.now scales2.now)
         file_length }
 {
     if fit::fits(

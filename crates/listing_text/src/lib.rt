@@ -9,6 +9,7 @@
 // with the key in decimal, `-` where there is none, and the first scale as a half in four digits of upper-case hexadecimal. The text of a refused
 // file is its number alone.
 #![tactic(auto)]
+
 ghost use Rattle.std.specs.Prelude.{◌≡◌, [], ◌∷◌, ◌++◌, ℕ, ◌%◌, ◌≤◌, ◌<◌, length};
 ghost use Rattle.print.specs.Printed.{Prints};
 ghost use Rattle.slot_keys.specs.Has.{key_at};
@@ -147,7 +148,7 @@ fn last_digit(n: u16) -> u8
     if digit < 10 {
         return b'0' + digit;
     }
-    b'_a' + (digit - 10)
+    b'A' + (digit - 10)
 }
 
 // A blank, four digits, and the line's end.

@@ -47,7 +47,7 @@ fn make(
     codes2: &[u8],
     scales2: &[u32],
 ) -> Made
-    ensures { let a = lent codes.entry scales.entry keys.entry keyed.entry held.entry alive.entry codes2.entry scales2.entry in
+    ensures { let a = lent codes.now scales.now keys.now keyed.now held.now alive.now codes2.now scales2.now in
         Make.begun result a ≡ Make.make (Make.new_header dim working_dim seed residual) a }
 {
     let bits = default_bits(residual);
@@ -86,7 +86,7 @@ pub fn new(
     codes2: &[u8],
     scales2: &[u32],
 ) -> Made
-    ensures { let a = lent codes.entry scales.entry keys.entry keyed.entry held.entry alive.entry codes2.entry scales2.entry in
+    ensures { let a = lent codes.now scales.now keys.now keyed.now held.now alive.now codes2.now scales2.now in
         Make.begun result a ≡ Make.make (Make.new_header dim dim seed false) a }
 {
     make(
@@ -108,7 +108,7 @@ pub fn with_working_dim(
     codes2: &[u8],
     scales2: &[u32],
 ) -> Made
-    ensures { let a = lent codes.entry scales.entry keys.entry keyed.entry held.entry alive.entry codes2.entry scales2.entry in
+    ensures { let a = lent codes.now scales.now keys.now keyed.now held.now alive.now codes2.now scales2.now in
         Make.begun result a ≡ Make.make (Make.new_header dim working_dim seed false) a }
 {
     make(
@@ -140,7 +140,7 @@ pub fn with_residual(
     codes2: &[u8],
     scales2: &[u32],
 ) -> Made
-    ensures { let a = lent codes.entry scales.entry keys.entry keyed.entry held.entry alive.entry codes2.entry scales2.entry in
+    ensures { let a = lent codes.now scales.now keys.now keyed.now held.now alive.now codes2.now scales2.now in
         Make.begun result a ≡ Make.make (Make.new_header dim dim seed true) a }
 {
     make(

@@ -28,7 +28,7 @@ pub extern "C" fn vecq_raw_new(
     dim: usize,
     seed: u64,
 ) -> u8
-    ensures { let a = lent codes.entry scales.entry keys.entry keyed.entry held.entry alive.entry codes2.entry scales2.entry in
+    ensures { let a = lent codes.now scales.now keys.now keyed.now held.now alive.now codes2.now scales2.now in
         left result fields.new [] a ≡ makes (new_header dim dim seed false) fields.old a }
 {
     let made_new = make::new(
@@ -52,7 +52,7 @@ pub extern "C" fn vecq_raw_with_working_dim(
     working_dim: usize,
     seed: u64,
 ) -> u8
-    ensures { let a = lent codes.entry scales.entry keys.entry keyed.entry held.entry alive.entry codes2.entry scales2.entry in
+    ensures { let a = lent codes.now scales.now keys.now keyed.now held.now alive.now codes2.now scales2.now in
         left result fields.new [] a ≡ makes (new_header dim working_dim seed false) fields.old a }
 {
     let made_working = make::with_working_dim(
@@ -85,7 +85,7 @@ pub extern "C" fn vecq_raw_with_residual(
     dim: usize,
     seed: u64,
 ) -> u8
-    ensures { let a = lent codes.entry scales.entry keys.entry keyed.entry held.entry alive.entry codes2.entry scales2.entry in
+    ensures { let a = lent codes.now scales.now keys.now keyed.now held.now alive.now codes2.now scales2.now in
         left result fields.new [] a ≡ makes (new_header dim dim seed true) fields.old a }
 {
     let made_residual = make::with_residual(

@@ -1,6 +1,5 @@
 -- One slot written over the lent arrays, and the refusals.
 use Rattle.std.specs.Prelude.{◌≡◌, Bool, true, false, cond, List, [], ◌∷◌, ℕ, suc, ◌*◌, ◌≤◌, ◌<◌, length, leb}
-use Rattle.std.specs.Borrow.{Bor}
 use Rattle.encode.specs.declared.Header.{Header}
 use Rattle.encode.specs.Header.{block_size}
 use Rattle.encode.specs.Coded.{Code, fault, no_spare, spare_of}
@@ -38,8 +37,8 @@ put_code h a fresh i v =
 abbrev pub data_in : (codes scales codes2 scales2 : List ℕ) → Arrays
 data_in a b c d = record { codes = a; scales = b; keys = []; keyed = []; held = []; alive = []; codes2 = c; scales2 = d }
 
-abbrev pub data_of : (codes scales codes2 scales2 : Bor (List ℕ)) → Arrays
-data_of a b c d = data_in a.now b.now c.now d.now
+abbrev pub data_of : (codes scales codes2 scales2 : List ℕ) → Arrays
+data_of a b c d = data_in a b c d
 
 -- the vector can be coded, and the slot has its places
 pub record Codable (h : Header) (a : Arrays) (i : ℕ) (v : Item) : Type 0 where

@@ -119,9 +119,9 @@ fn put_code(
     codes2: &mut [u8],
     scales2: &mut [u32],
 )
-    requires { Codable header (data_of codes scales codes2 scales2) slot (item_of v.now) }
-    ensures { data_of codes.exit scales.exit codes2.exit scales2.exit
-        ≡ put_code header (data_of codes.entry scales.entry codes2.entry scales2.entry) fresh slot (item_of v.now) }
+    requires { Codable header (data_of codes.old scales.old codes2.old scales2.old) slot (item_of v.now) }
+    ensures { data_of codes.new scales.new codes2.new scales2.new
+        ≡ put_code header (data_of codes.old scales.old codes2.old scales2.old) fresh slot (item_of v.now) }
 {
     let size = codes::bytes_per_vector(padding::padded_dim(header.working_dim), header.bits);
     let from = slot * size;
@@ -188,7 +188,7 @@ fn refusal(
     slot: usize,
     v: &[f32],
 ) -> u8
-    ensures { result ≡ refusal index (lent codes.entry scales.entry keys.entry keyed.entry held.entry alive.entry codes2.entry scales2.entry)
+    ensures { result ≡ refusal index (lent codes.now scales.now keys.now keyed.now held.now alive.now codes2.now scales2.now)
         slot (item_of v.now) }
 {
     if fit::fits(
@@ -223,8 +223,8 @@ pub fn put(
     adding: Adding,
     v: &[f32],
 ) -> Added
-    ensures { added index result (lent codes.exit scales.exit keys.exit keyed.exit held.exit alive.exit codes2.exit scales2.exit)
-        ≡ call index (lent codes.entry scales.entry keys.entry keyed.entry held.entry alive.entry codes2.entry scales2.entry)
+    ensures { added index result (lent codes.new scales.new keys.new keyed.new held.new alive.new codes2.new scales2.new)
+        ≡ call index (lent codes.old scales.old keys.old keyed.old held.old alive.old codes2.old scales2.old)
         (op_of adding (item_of v.now)) }
 {
     let n = index.n;

@@ -233,7 +233,7 @@ pub fn read_fault(
     file: &[u8],
 ) -> u8
     ensures { result ≡ read_refusal file.now
-        (lent codes.entry scales.entry keys.entry keyed.entry held.entry alive.entry codes2.entry scales2.entry) }
+        (lent codes.now scales.now keys.now keyed.now held.now alive.now codes2.now scales2.now) }
 {
     let head = header::head_fault(file);
     if head != 0 {
@@ -399,8 +399,8 @@ pub fn from_bytes(
     scales2: &mut [u32],
     file: &[u8],
 ) -> Made
-    ensures { begun result (lent codes.exit scales.exit keys.exit keyed.exit held.exit alive.exit codes2.exit scales2.exit)
-        ≡ read_into (lent codes.entry scales.entry keys.entry keyed.entry held.entry alive.entry codes2.entry scales2.entry)
+    ensures { begun result (lent codes.new scales.new keys.new keyed.new held.new alive.new codes2.new scales2.new)
+        ≡ read_into (lent codes.old scales.old keys.old keyed.old held.old alive.old codes2.old scales2.old)
         file.now }
 {
     let fault = read_fault(

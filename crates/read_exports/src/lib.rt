@@ -20,7 +20,7 @@ fn without_place(
     file: &[u8],
 ) -> u8
     ensures { result ≡ first_of (read_refusal file.now
-        (lent codes.entry scales.entry keys.entry keyed.entry held.entry alive.entry codes2.entry scales2.entry) ∷ 13 ∷ []) }
+        (lent codes.now scales.now keys.now keyed.now held.now alive.now codes2.now scales2.now) ∷ 13 ∷ []) }
 {
     let fault = read::read_fault(
         codes, scales, keys, keyed, held, alive, codes2, scales2, file,
@@ -45,9 +45,9 @@ pub extern "C" fn vecq_raw_from_bytes(
     file: &[u8],
 ) -> u8
     ensures { left result fields.new []
-        (lent codes.exit scales.exit keys.exit keyed.exit held.exit alive.exit codes2.exit scales2.exit)
+        (lent codes.new scales.new keys.new keyed.new held.new alive.new codes2.new scales2.new)
         ≡ reads file.now fields.old
-        (lent codes.entry scales.entry keys.entry keyed.entry held.entry alive.entry codes2.entry scales2.entry) }
+        (lent codes.old scales.old keys.old keyed.old held.old alive.old codes2.old scales2.old) }
 {
     // nothing may have been written once the record turns out to have no place
     if fields.len() < words::RECORD_WORDS {

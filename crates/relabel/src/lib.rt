@@ -65,8 +65,8 @@ pub fn relabel(
     old: u64,
     new: u64,
 ) -> Changed
-    ensures { changed index result (lent codes.entry scales.entry keys.exit keyed.entry held.entry alive.entry codes2.entry scales2.entry)
-        ≡ call index (lent codes.entry scales.entry keys.entry keyed.entry held.entry alive.entry codes2.entry scales2.entry)
+    ensures { changed index result (lent codes.now scales.now keys.new keyed.now held.now alive.now codes2.now scales2.now)
+        ≡ call index (lent codes.now scales.now keys.old keyed.now held.now alive.now codes2.now scales2.now)
         (Step.relabel old new) }
 {
     if fit::fits(

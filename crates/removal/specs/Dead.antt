@@ -1,6 +1,5 @@
 -- The arrays that a removal writes, and what it makes of them. The word that `keys` has at a dead slot stays, and counts for nothing.
 use Rattle.std.specs.Prelude.{Bool, false, List, ℕ, set}
-use Rattle.std.specs.Borrow.{Bor}
 use Rattle.remarking.specs.Replaced.{replaced_where}
 
 pub record SlotMarks : Type 0 where
@@ -8,8 +7,8 @@ pub record SlotMarks : Type 0 where
   pub held : List ℕ
   pub alive : List ℕ
 
-abbrev pub lent_marks : Bor (List Bool) → Bor (List ℕ) → Bor (List ℕ) → SlotMarks
-lent_marks a b c = record { keyed = a.now; held = b.now; alive = c.now }
+abbrev pub lent_marks : List Bool → List ℕ → List ℕ → SlotMarks
+lent_marks a b c = record { keyed = a; held = b; alive = c }
 
 -- a slot dead: no key, position 0, the mark 0
 unfoldable pub dead_at : ℕ → SlotMarks → SlotMarks

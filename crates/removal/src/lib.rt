@@ -19,7 +19,7 @@ const MISFIT: u8 = 13;
 // Leaves a slot dead.
 fn remove_slot(keyed: &mut [bool], held: &mut [u32], alive: &mut [u8], slot: usize)
     requires { (slot < length keyed.old) × (slot < length held.old) }
-    ensures { lent_marks keyed.exit held.exit alive.exit ≡ dead_at slot (lent_marks keyed.entry held.entry alive.entry) }
+    ensures { lent_marks keyed.new held.new alive.new ≡ dead_at slot (lent_marks keyed.old held.old alive.old) }
 {
     keyed[slot] = false;
     held[slot] = 0;
@@ -36,9 +36,9 @@ fn remove_slot_of(
     key: u64,
 )
     requires { (slot < length keyed.old) × (slot < length held.old) }
-    ensures { lent_marks keyed.exit held.exit alive.exit
-        ≡ cond (slot_has keys.now keyed.old key slot) (dead_at slot (lent_marks keyed.entry held.entry alive.entry))
-        (lent_marks keyed.entry held.entry alive.entry) }
+    ensures { lent_marks keyed.new held.new alive.new
+        ≡ cond (slot_has keys.now keyed.old key slot) (dead_at slot (lent_marks keyed.old held.old alive.old))
+        (lent_marks keyed.old held.old alive.old) }
 {
     if slot_keys::has_key(keys, keyed, slot, key) {
         remove_slot(keyed, held, alive, slot);
@@ -55,8 +55,8 @@ fn remove_slots(
     key: u64,
 )
     requires { (n ≤ length keyed.old) × (n ≤ length held.old) × (n ≤ length alive.old) }
-    ensures { lent_marks keyed.exit held.exit alive.exit
-        ≡ dead_where (slot_has keys.now keyed.old key) n (lent_marks keyed.entry held.entry alive.entry) }
+    ensures { lent_marks keyed.new held.new alive.new
+        ≡ dead_where (slot_has keys.now keyed.old key) n (lent_marks keyed.old held.old alive.old) }
 {
     let mut i = 0;
     while i < n {
@@ -88,8 +88,8 @@ pub fn remove_keyed(
     scales2: &[u32],
     key: u64,
 ) -> Changed
-    ensures { changed index result (lent codes.entry scales.entry keys.entry keyed.exit held.exit alive.exit codes2.entry scales2.entry)
-        ≡ call index (lent codes.entry scales.entry keys.entry keyed.entry held.entry alive.entry codes2.entry scales2.entry)
+    ensures { changed index result (lent codes.now scales.now keys.now keyed.new held.new alive.new codes2.now scales2.now)
+        ≡ call index (lent codes.now scales.now keys.now keyed.old held.old alive.old codes2.now scales2.now)
         (Step.remove key) }
 {
     if fit::fits(
@@ -129,8 +129,8 @@ fn last_slot(keys: &[u64], keyed: &[bool], held: &[u32], n: usize, key: u64) -> 
 // Leaves a slot dead, and its position to the last one of its key, which may be the slot itself.
 fn remove_one(keyed: &mut [bool], held: &mut [u32], alive: &mut [u8], slot: usize, last: usize)
     requires { (slot < length keyed.old) × (slot < length held.old) × (last < length held.old) }
-    ensures { lent_marks keyed.exit held.exit alive.exit
-        ≡ dead_at slot (placed_at last (get_or held.old slot 0) (lent_marks keyed.entry held.entry alive.entry)) }
+    ensures { lent_marks keyed.new held.new alive.new
+        ≡ dead_at slot (placed_at last (get_or held.old slot 0) (lent_marks keyed.old held.old alive.old)) }
 {
     held[last] = held[slot];
     remove_slot(keyed, held, alive, slot);
@@ -150,8 +150,8 @@ pub fn remove_keyed_at(
     key: u64,
     slot: usize,
 ) -> Changed
-    ensures { changed index result (lent codes.entry scales.entry keys.entry keyed.exit held.exit alive.exit codes2.entry scales2.entry)
-        ≡ call index (lent codes.entry scales.entry keys.entry keyed.entry held.entry alive.entry codes2.entry scales2.entry)
+    ensures { changed index result (lent codes.now scales.now keys.now keyed.new held.new alive.new codes2.now scales2.now)
+        ≡ call index (lent codes.now scales.now keys.now keyed.old held.old alive.old codes2.now scales2.now)
         (Step.remove_at key slot) }
 {
     if fit::fits(

@@ -39,7 +39,7 @@ pub fn capacity(
     scales2: &[u32],
 ) -> usize
     ensures { result ≡ at_width index.bits (State.capacity (State.header_of index)
-        (lent codes.entry scales.entry keys.entry keyed.entry held.entry alive.entry codes2.entry scales2.entry)) }
+        (lent codes.now scales.now keys.now keyed.now held.now alive.now codes2.now scales2.now)) }
 {
     let bytes = block_size(index);
     if bytes == 0 {

@@ -36,7 +36,7 @@ pub extern "C" fn vecq_raw_score(
     slot: usize,
     query: &[f32],
 ) -> u8
-    ensures { let a = lent codes.entry scales.entry keys.entry keyed.entry held.entry alive.entry codes2.entry scales2.entry in
+    ensures { let a = lent codes.now scales.now keys.now keyed.now held.now alive.now codes2.now scales2.now in
         let op = Step.score slot (query_of query.now) in
         left result fields.now answer.new a ≡ left_by 1 op fields.now answer.old a }
 {

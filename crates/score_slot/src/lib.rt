@@ -109,8 +109,8 @@ pub fn score(
     slot: usize,
     query: &[f32],
 ) -> Scored
-    ensures { result_of index (lent codes.entry scales.entry keys.entry keyed.entry held.entry alive.entry codes2.entry scales2.entry) (scored result)
-        ≡ call index (lent codes.entry scales.entry keys.entry keyed.entry held.entry alive.entry codes2.entry scales2.entry)
+    ensures { result_of index (lent codes.now scales.now keys.now keyed.now held.now alive.now codes2.now scales2.now) (scored result)
+        ≡ call index (lent codes.now scales.now keys.now keyed.now held.now alive.now codes2.now scales2.now)
         (Step.score slot (query_of query.now)) }
 {
     if !fit::fits(

@@ -28,9 +28,9 @@ pub fn search(
     slots: &mut [u32],
     scores: &mut [f32],
 ) -> Found
-    ensures answers { result_of index (lent codes.entry scales.entry keys.entry keyed.entry held.entry alive.entry codes2.entry scales2.entry)
+    ensures answers { result_of index (lent codes.now scales.now keys.now keyed.now held.now alive.now codes2.now scales2.now)
         (found result slots.new scores.new)
-        ≡ call index (lent codes.entry scales.entry keys.entry keyed.entry held.entry alive.entry codes2.entry scales2.entry)
+        ≡ call index (lent codes.now scales.now keys.now keyed.now held.now alive.now codes2.now scales2.now)
         (Step.search (query_of query.now) k (min (length slots.old) (length scores.old))) }
     ensures later_kept { LaterKept (hit_count result) slots.old slots.new × LaterKept (hit_count result) scores.old scores.new }
 {

@@ -38,7 +38,7 @@ pub extern "C" fn vecq_raw_search(
     slots: &mut [u32],
     scores: &mut [f32],
 ) -> u8
-    ensures answers { let a = lent codes.entry scales.entry keys.entry keyed.entry held.entry alive.entry codes2.entry scales2.entry in
+    ensures answers { let a = lent codes.now scales.now keys.now keyed.now held.now alive.now codes2.now scales2.now in
         let op = Step.search (query_of query.now) k (min (length slots.old) (length scores.old)) in
         found (found_in result answer.new) slots.new scores.new
         ≡ answer_beside op a fields.now answer.old }
@@ -72,7 +72,7 @@ pub extern "C" fn vecq_raw_search_keyed(
     names: &mut [u64],
     scores: &mut [f32],
 ) -> u8
-    ensures answers { let a = lent codes.entry scales.entry keys.entry keyed.entry held.entry alive.entry codes2.entry scales2.entry in
+    ensures answers { let a = lent codes.now scales.now keys.now keyed.now held.now alive.now codes2.now scales2.now in
         let op = Step.search_keyed (query_of query.now) k (min (length names.old) (length scores.old)) in
         found_keyed (found_in result answer.new) names.new scores.new
         ≡ answer_beside op a fields.now answer.old }
@@ -107,7 +107,7 @@ pub extern "C" fn vecq_raw_search_cascade(
     slots: &mut [u32],
     scores: &mut [f32],
 ) -> u8
-    ensures answers { let a = lent codes.entry scales.entry keys.entry keyed.entry held.entry alive.entry codes2.entry scales2.entry in
+    ensures answers { let a = lent codes.now scales.now keys.now keyed.now held.now alive.now codes2.now scales2.now in
         let op = Step.search_cascade (query_of query.now) k r (min (length slots.old) (length scores.old)) in
         found (found_in result answer.new) slots.new scores.new
         ≡ answer_beside op a fields.now answer.old }

@@ -73,9 +73,9 @@ pub fn search_keyed(
     names: &mut [u64],
     scores: &mut [f32],
 ) -> Found
-    ensures answers { result_of index (lent codes.entry scales.entry keys.entry keyed.entry held.entry alive.entry codes2.entry scales2.entry)
+    ensures answers { result_of index (lent codes.now scales.now keys.now keyed.now held.now alive.now codes2.now scales2.now)
         (found_keyed result names.new scores.new)
-        ≡ call index (lent codes.entry scales.entry keys.entry keyed.entry held.entry alive.entry codes2.entry scales2.entry)
+        ≡ call index (lent codes.now scales.now keys.now keyed.now held.now alive.now codes2.now scales2.now)
         (Step.search_keyed (query_of query.now) k (min (length names.old) (length scores.old))) }
     ensures later_kept { LaterKept (hit_count result) names.old names.new × LaterKept (hit_count result) scores.old scores.new }
 {

@@ -22,7 +22,7 @@ pub fn set_bits(
     scales2: &[u32],
     bits: u8,
 ) -> Made
-    ensures { let a = lent codes.entry scales.entry keys.entry keyed.entry held.entry alive.entry codes2.entry scales2.entry in
+    ensures { let a = lent codes.now scales.now keys.now keyed.now held.now alive.now codes2.now scales2.now in
         made index result a ≡ call index a (set_bits bits) }
 {
     if !fit::fits(
@@ -58,7 +58,7 @@ pub fn enable_cascade(
     codes2: &[u8],
     scales2: &[u32],
 ) -> Made
-    ensures { let a = lent codes.entry scales.entry keys.entry keyed.entry held.entry alive.entry codes2.entry scales2.entry in
+    ensures { let a = lent codes.now scales.now keys.now keyed.now held.now alive.now codes2.now scales2.now in
         made index result a ≡ call index a enable }
 {
     if !fit::fits(

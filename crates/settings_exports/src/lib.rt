@@ -22,7 +22,7 @@ pub extern "C" fn vecq_raw_set_bits(
     scales2: &[u32],
     bits: u8,
 ) -> u8
-    ensures { let a = lent codes.entry scales.entry keys.entry keyed.entry held.entry alive.entry codes2.entry scales2.entry in
+    ensures { let a = lent codes.now scales.now keys.now keyed.now held.now alive.now codes2.now scales2.now in
         left result fields.new [] a ≡ left_by 0 (set_bits bits) fields.old [] a }
 {
     let Record::Fields(index) = words::record_in(fields) else {
@@ -46,7 +46,7 @@ pub extern "C" fn vecq_raw_enable_cascade(
     codes2: &[u8],
     scales2: &[u32],
 ) -> u8
-    ensures { let a = lent codes.entry scales.entry keys.entry keyed.entry held.entry alive.entry codes2.entry scales2.entry in
+    ensures { let a = lent codes.now scales.now keys.now keyed.now held.now alive.now codes2.now scales2.now in
         left result fields.new [] a ≡ left_by 0 enable fields.old [] a }
 {
     let Record::Fields(index) = words::record_in(fields) else {

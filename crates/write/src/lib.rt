@@ -298,9 +298,9 @@ pub fn to_bytes(
     scales2: &[u32],
     file: &mut [u8],
 ) -> Written
-    ensures answers { result_of index (lent codes.entry scales.entry keys.entry keyed.entry held.entry alive.entry codes2.entry scales2.entry)
+    ensures answers { result_of index (lent codes.now scales.now keys.now keyed.now held.now alive.now codes2.now scales2.now)
         (wrote result file.new)
-        ≡ call index (lent codes.entry scales.entry keys.entry keyed.entry held.entry alive.entry codes2.entry scales2.entry)
+        ≡ call index (lent codes.now scales.now keys.now keyed.now held.now alive.now codes2.now scales2.now)
         (Step.write (length file.old)) }
     ensures later_kept { LaterKept (byte_count result) file.old file.new }
 {

@@ -34,7 +34,7 @@ pub extern "C" fn vecq_raw_file_length(
     codes2: &[u8],
     scales2: &[u32],
 ) -> u8
-    ensures { let a = lent codes.entry scales.entry keys.entry keyed.entry held.entry alive.entry codes2.entry scales2.entry in
+    ensures { let a = lent codes.now scales.now keys.now keyed.now held.now alive.now codes2.now scales2.now in
         left result fields.now answer.new a ≡ left_by 1 file_length fields.now answer.old a }
 {
     let Record::Fields(index) = words::record_beside(fields, answer, 1) else {
@@ -60,7 +60,7 @@ pub extern "C" fn vecq_raw_to_bytes(
     scales2: &[u32],
     file: &mut [u8],
 ) -> u8
-    ensures answers { let a = lent codes.entry scales.entry keys.entry keyed.entry held.entry alive.entry codes2.entry scales2.entry in
+    ensures answers { let a = lent codes.now scales.now keys.now keyed.now held.now alive.now codes2.now scales2.now in
         let op = Step.write (length file.old) in
         wrote (written_in result answer.new) file.new ≡ answer_beside op a fields.now answer.old }
     ensures answer_kept { LaterKept (word_count result) answer.old answer.new }

@@ -19,7 +19,7 @@ marks_fit-requires c =
     let s = c in
     let g = c.fields_fit.ensures.yes c.if-fields_fit.true in
     let e = c.capacity-room.ensures ∙ in-width _ _ g.bits g.bits-high in
-    let room = enough (header_of s.args.index) ((lent s.args.codes s.args.scales s.args.keys s.args.keyed s.args.held s.args.alive s.args.codes2 s.args.scales2)) s.args.index.n (omega (arith, e, c.if-room-n.false)) in
+    let room = enough (header_of s.args.index) ((lent s.args.codes.now s.args.scales.now s.args.keys.now s.args.keyed.now s.args.held.now s.args.alive.now s.args.codes2.now s.args.scales2.now)) s.args.index.n (omega (arith, e, c.if-room-n.false)) in
     (room.few, room.keyed, room.alive)
 
 pub returns-then-marks_fit : goal.returns-then-marks_fit

@@ -14,7 +14,7 @@ use Rattle.place.proofs.put.Statement.{statement}
 use Rattle.place.proofs.put.Tie as tie
 
 abbrev arrays : tie.Start → Arrays
-arrays s = lent s.args.codes s.args.scales s.args.keys s.args.keyed s.args.held s.args.alive s.args.codes2 s.args.scales2
+arrays s = lent s.args.codes.now s.args.scales.now s.args.keys.now s.args.keyed.now s.args.held.now s.args.alive.now s.args.codes2.now s.args.scales2.now
 
 abbrev start : tie.Else1 → tie.Start
 start c = c.before.before.before.before.before.before.before.before.before.before.before.before.before.before.before.before.before.before.before.before.before.before.before
@@ -127,7 +127,7 @@ returns-2 c =
     let mark = (marked c).put-mark.ensures in
     accepted-call s.args.index (arrays s) (item_of s.args.v.now) s.args.adding found.result found.ensures number.result number.ensures go_on.if1.false _
     (done s.args.index (arrays s) found.result (spot-marked s.args.index (arrays s) (item_of s.args.v.now) s.args.adding found.result found.ensures number.result number.ensures go_on.if1.false) (eqb found.result.slot s.args.index.n) (item_of s.args.v.now) _ _ _ _ _ _ _ _ _
-    ((coded c).put-code.ensures ∙ ap (λ (h : Header). put_code h (data_of s.args.codes s.args.scales s.args.codes2 s.args.scales2) (eqb found.result.slot s.args.index.n) found.result.slot (item_of s.args.v.now)) header)
+    ((coded c).put-code.ensures ∙ ap (λ (h : Header). put_code h (data_of s.args.codes.now s.args.scales.now s.args.codes2.now s.args.scales2.now) (eqb found.result.slot s.args.index.n) found.result.slot (item_of s.args.v.now)) header)
     mark.0 mark.1.0 mark.1.1.0 mark.1.1.1 c.after-add.ensures)
 
 pub put_spec : {M : Type 1} → statement M

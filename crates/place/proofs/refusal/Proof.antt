@@ -7,7 +7,7 @@ use Rattle.place.proofs.refusal.Statement.{statement}
 use Rattle.place.proofs.refusal.Tie as tie
 
 abbrev arrays : tie.Start → Arrays
-arrays s = lent s.args.codes s.args.scales s.args.keys s.args.keyed s.args.held s.args.alive s.args.codes2 s.args.scales2
+arrays s = lent s.args.codes.now s.args.scales.now s.args.keys.now s.args.keyed.now s.args.held.now s.args.alive.now s.args.codes2.now s.args.scales2.now
 
 fits-requires : tie.Need-fits-requires
 fits-requires c κs = tt

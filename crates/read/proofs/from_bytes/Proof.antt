@@ -7,7 +7,7 @@ use Rattle.read.proofs.from_bytes.Statement.{statement}
 use Rattle.read.proofs.from_bytes.Tie as tie
 
 abbrev arrays : tie.Start → Arrays
-arrays s = lent s.args.codes s.args.scales s.args.keys s.args.keyed s.args.held s.args.alive s.args.codes2 s.args.scales2
+arrays s = lent s.args.codes.now s.args.scales.now s.args.keys.now s.args.keyed.now s.args.held.now s.args.alive.now s.args.codes2.now s.args.scales2.now
 
 read-fault-requires : tie.Need-read-fault-requires
 read-fault-requires c κs = tt

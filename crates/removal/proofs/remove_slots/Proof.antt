@@ -19,7 +19,7 @@ abbrev decreases-loop : tie.decreases-loop
 decreases-loop keys keyed₀ held₀ alive₀ n key i₀ keyed held alive i = n - i
 
 abbrev start : tie.Start invariant-loop decreases-loop → SlotMarks
-start s = lent_marks s.args.keyed s.args.held s.args.alive
+start s = lent_marks s.args.keyed.now s.args.held.now s.args.alive.now
 
 loop-holds : tie.Need-loop-init invariant-loop decreases-loop
 loop-holds c = (omega arith, record { keyed = refl; held = refl; alive = refl }, dead-none _ _)

@@ -34,8 +34,8 @@ returns c =
     let block2 = c.before.slot-codes2 in
     let lent = stage-lent (header_of s.args.index) s.args.centroids.now s.args.query.now _ _ c.before.before.before.before.before.before.before.padded-dim.ensures c.before.before.before.before.before.before.bytes-per-vector.ensures in
     two-stages _ _ _ _ _ _ _ _
-    (lent s.args.scales.now s.args.codes.now s.args.slot scale.result block.result.now scale.ensures block.ensures)
-    (lent s.args.scales2.now s.args.codes2.now s.args.slot scale2.result block2.result.now scale2.ensures block2.ensures)
+    (lent s.args.scale.nows.now s.args.codes.now s.args.slot scale.result block.result.now scale.ensures block.ensures)
+    (lent s.args.scales.now2.now s.args.codes2.now s.args.slot scale2.result block2.result.now scale2.ensures block2.ensures)
     _ c.before.before.before.if1.true c.score-residual.ensures
 
 score-requires : tie.Need-score-requires
@@ -48,7 +48,7 @@ returns-2 c =
     let block = c.before.before.slot-codes in
     let lent = stage-lent (header_of s.args.index) s.args.centroids.now s.args.query.now _ _ c.before.before.before.before.before.padded-dim.ensures c.before.before.before.before.bytes-per-vector.ensures in
     one-stage _ _ _ _ (stage_at (header_of s.args.index) s.args.scales2.now s.args.codes2.now s.args.slot) _ _
-    (lent s.args.scales.now s.args.codes.now s.args.slot scale.result block.result.now scale.ensures block.ensures)
+    (lent s.args.scale.nows.now s.args.codes.now s.args.slot scale.result block.result.now scale.ensures block.ensures)
     _ c.before.if1.false c.score.ensures
 
 pub score-prepared-spec : {M : Type 1} → statement M
