@@ -24,7 +24,6 @@ use Rattle.slot_keys.specs.Has.{slot_has}
 use Rattle.held.specs.Held.{held_count, slot_holds, held_slot}
 use Rattle.held.proofs.Value.{mark-holds_at, held_by_lem, slot-found, slot-missing, missing-end, found-holds, only-slot}
 use Rattle.place.specs.declared.Adding.{Adding}
-use Rattle.place.specs.declared.Adding.TheVariants as Adding
 use Rattle.place.specs.declared.Spot.{Spot}
 use Rattle.place.specs.Place.{refusal}
 use Rattle.place.specs.Adding.{op_of, spot, spot_of}

@@ -3,7 +3,6 @@ use Rattle.std.specs.Prelude.{Bool, true, false, List, ℕ}
 use Rattle.index.specs.Step.{Item, Op, add, add_keyed, add_multi}
 use Rattle.held.specs.Held.{held_count, held_slot}
 use Rattle.place.specs.declared.Adding.{Adding}
-use Rattle.place.specs.declared.Adding.TheVariants as Adding
 use Rattle.place.specs.declared.Spot.{Spot}
 
 -- the call that each way of adding is
