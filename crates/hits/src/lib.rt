@@ -178,8 +178,8 @@ fn enter_all(
     all: &mut [f32],
     orders: &mut [u32],
 ) -> bool
-    requires le_bits { (4 ≤ index.bits) × (index.bits ≤ 6) × (index.n ≤ length all.old) × (index.n ≤ length orders.old) }
-    requires query_value { rotatable index.working_dim (length query.now) 4096 ≡ true }
+    requires sizes { (4 ≤ index.bits) × (index.bits ≤ 6) × (index.n ≤ length all.old) × (index.n ≤ length orders.old) }
+    requires can_rotate { rotatable index.working_dim (length query.now) 4096 ≡ true }
     ensures { EntersSlots (score_at (header_of index) codes.now scales.now codes2.now scales2.now
         (query_of query.now))
         marks.now index.n all.old all.new orders.old orders.new result }
@@ -208,8 +208,8 @@ fn enter_all(
 
 // The score of each of these slots, in the first places of `scores`.
 fn write_scores(all: &[f32], slots: &[u32], scores: &mut [f32])
-    requires each { Each (λ i. i < length all.now) slots.now }
-    requires slots_in_bounds { length slots.now ≤ length scores.old }
+    requires slots_within { Each (λ i. i < length all.now) slots.now }
+    requires room { length slots.now ≤ length scores.old }
     ensures { scores.new ≡ over (map (λ i. get_or all.now i +0) slots.now) scores.old }
 {
     let mut i = 0;
@@ -283,8 +283,8 @@ fn list_in(
     all: &mut [f32],
     orders: &mut [u32],
 ) -> Listed
-    requires query_value { ready index.n index.bits index.working_dim (length query.now) ≡ true }
-    requires n_in_bounds { (index.n ≤ length all.old) × (index.n ≤ length orders.old) }
+    requires is_ready { ready index.n index.bits index.working_dim (length query.now) ≡ true }
+    requires room { (index.n ≤ length all.old) × (index.n ≤ length orders.old) }
     ensures { ListsHits (score_at (header_of index) codes.now scales.now codes2.now scales2.now
         (query_of query.now))
         marks.now index.n k slots.old slots.new scores.old scores.new result }

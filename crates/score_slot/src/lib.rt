@@ -70,8 +70,8 @@ fn score_by_width(
     slot: usize,
     query: &[f32],
 ) -> Scored
-    requires le_bits { (4 ≤ index.bits) × (index.bits ≤ 6) }
-    requires query_value { rotatable index.working_dim (length query.now) 4096 ≡ true }
+    requires width { (4 ≤ index.bits) × (index.bits ≤ 6) }
+    requires can_rotate { rotatable index.working_dim (length query.now) 4096 ≡ true }
     ensures { result ≡ judged (score_of (header_of index) (query_of query.now) (code_in index.residual
         (stage_at (header_of index) scales.now codes.now slot)
         (stage_at (header_of index) scales2.now codes2.now slot))) }
