@@ -10,7 +10,7 @@ use lib.ListN.{length, get_or, set, take, drop, length-append, length-drop, leng
 use lib.Seq.{paste, paste-zero, paste-suc, drop-paste, length-take-le, get_or-drop, drop-append-add, drop-drop}
 use borrow.Author.Tests.{le-leb}
 use Rattle.lists.specs.Lists.{tab, over, splice, joined, below}
-use Rattle.lists.specs.Keep.{keep, count}
+use Rattle.lists.specs.Keep.{keep}
 use Rattle.lists.proofs.Laws.{length-tab, length_over, over-more}
 use Rattle.lists.proofs.Keep.{keep_append, length-keep, count-length}
 use Rattle.lists.proofs.Front.{get_or-rest, over-append, splice-one, length-splice, each-tab}

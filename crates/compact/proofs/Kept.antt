@@ -17,7 +17,7 @@ use Rattle.lists.proofs.Front.{get_d_front, map-tab, tab-map}
 use Rattle.encode.specs.declared.Header.{Header}
 use Rattle.codes.specs.Slots.{block_at}
 use Rattle.index.specs.Arrays.{Arrays}
-use Rattle.index.specs.State.{keyed, Slot, live, mark_of, slot_at, alive_of, has_key, key_word}
+use Rattle.index.specs.State.{Slot, live, mark_of, slot_at, alive_of, has_key, key_word}
 use Rattle.index.proofs.Marks.{mark-live}
 use Rattle.marks.specs.Live.{live_at}
 use Rattle.compact.specs.Gathered.{live_slots, gathered, gathered_blocks, Downward}

@@ -1,0 +1,8 @@
+use mathlib.Core.Path.{◌∙◌}
+use Rattle.held_order.proofs.Writing.{in_place}
+use Rattle.compact.proofs.gather_marks.Goals as goal
+
+pub returns-clause-held_after : goal.returns-clause-held_after
+returns-clause-held_after c =
+    let s = c in
+    c.restore_order.ensures ∙ in_place _ _ _ _ s.requires.n_in_bounds.1 s.requires.downward.0.many
