@@ -22,7 +22,6 @@ use Rattle.scan.specs.Scan.{takes_part}
 use Rattle.lists.proofs.Tests.{and_left, and_right}
 use Rattle.choose_slots.specs.Slots.{listed, listed_within}
 use Rattle.hits.specs.declared.Listed.{Listed}
-use Rattle.hits.specs.declared.Listed.TheVariants as Listed
 use Rattle.hits.specs.Hits.{chosen, shown, list_answer, ready}
 use Rattle.hits.specs.Steps.{score_entry, order_entry, any_nan, WritesHits, any_takes_part, count_answer, ListsHits}
 use Rattle.hits.proofs.Entering.{never, none_each, no_nan}

@@ -10,7 +10,6 @@ use Rattle.encode.specs.declared.Header.{Header}
 use Rattle.encode.specs.Coded.{code_in}
 use Rattle.lists.specs.Lists.{below}
 use Rattle.hits.specs.declared.Listed.{Listed}
-use Rattle.hits.specs.declared.Listed.TheVariants as Listed
 use Rattle.index.specs.State.{stage_at}
 use Rattle.index.specs.Codec.{score_of}
 use Rattle.scan.specs.Scan.{takes_part}

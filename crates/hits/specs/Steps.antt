@@ -10,7 +10,6 @@ use Rattle.score.specs.Score.{slot_score}
 use Rattle.score.specs.Order.{order_number}
 use Rattle.choose_slots.specs.Slots.{listed_within}
 use Rattle.hits.specs.declared.Listed.{Listed}
-use Rattle.hits.specs.declared.Listed.TheVariants as Listed
 use Rattle.index.specs.State.{stage_at}
 use Rattle.lists.specs.Keep.{any, keep}
 use Rattle.scan.specs.Scan.{takes_part}

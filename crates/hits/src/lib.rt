@@ -312,7 +312,7 @@ pub fn list(
     slots: &mut [u32],
     scores: &mut [f32],
 ) -> Listed
-    ensures value { result ≡ list_answer (score_at (header_of index) codes.now scales.now codes2.now scales2.now
+    ensures answer { result ≡ list_answer (score_at (header_of index) codes.now scales.now codes2.now scales2.now
         (query_of query.now))
         marks.now index.n (ready index.n index.bits index.working_dim (length query.now)) k
         (min (length slots.old) (length scores.old)) }
