@@ -14,7 +14,7 @@ use Rattle.lists.proofs.Front.{map-tab, get_or-over-map, over-own}
 use Rattle.codes.specs.Stage.{Stage}
 use Rattle.index.specs.declared.Index.{Index}
 use Rattle.index.specs.Arrays.{Arrays}
-use Rattle.index.specs.State.{Mark, keyed, Slot, is_live, live, header_of, mark_of, slot_at, state_of, record_of, alive_of, has_key, key_word, position, seconds, scales_of, blocks_of, overlay, with_counts}
+use Rattle.index.specs.State.{Mark, Slot, is_live, live, header_of, mark_of, slot_at, state_of, record_of, alive_of, has_key, key_word, position, seconds, scales_of, blocks_of, overlay, with_counts}
 use Rattle.index.specs.Fit.{fit}
 use Rattle.index.specs.Step.{Op, flag, holds, on_mark, guarded, remarked}
 use Rattle.index.specs.Call.{laid_over, call}

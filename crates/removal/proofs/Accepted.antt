@@ -17,7 +17,7 @@ use Rattle.lists.proofs.Keep.{count_map}
 use Rattle.lists.proofs.Front.{over-ext, map-tab}
 use Rattle.index.specs.declared.Index.{Index}
 use Rattle.index.specs.Arrays.{Arrays}
-use Rattle.index.specs.State.{Mark, dead, unkeyed, keyed, slot_at, state_of, alive_of, has_key, key_word, position}
+use Rattle.index.specs.State.{Mark, dead, unkeyed, slot_at, state_of, alive_of, has_key, key_word, position}
 use Rattle.index.specs.Fit.{fit}
 use Rattle.index.specs.Step.{Op, flag, Outcome, live_from, held_by, holds, holds_at, answered, remarked, step, remove, removed, remove_at, gap_filled, position_of}
 use Rattle.index.specs.Call.{call}
