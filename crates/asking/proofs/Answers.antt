@@ -15,7 +15,6 @@ use Rattle.encode.specs.declared.Header.{Header}
 use Rattle.encode.specs.Coded.{fault}
 use Rattle.index.specs.declared.Index.{Index}
 use Rattle.index.specs.declared.Found.{Found}
-use Rattle.index.specs.declared.Found.TheVariants as Found
 use Rattle.index.specs.Arrays.{Arrays}
 use Rattle.index.specs.State.{header_of}
 use Rattle.index.specs.Fit.{fit}
@@ -28,7 +27,6 @@ use Rattle.fit.proofs.Meaning.{meaning}
 use Rattle.fit.proofs.Rooms.{enough}
 use Rattle.score_slot.proofs.Query.{width-in, query-rotatable}
 use Rattle.hits.specs.declared.Listed.{Listed}
-use Rattle.hits.specs.declared.Listed.TheVariants as Listed
 use Rattle.hits.specs.contracts.Listed.{the_type}
 use Rattle.hits.specs.Hits.{scored_slots, chosen, shown, list_answer, ready}
 use Rattle.asking.proofs.Cells.{scores, cells, hits-nan}

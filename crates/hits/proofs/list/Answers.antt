@@ -1,5 +1,4 @@
-use Rattle.std.proofs.Common.{◌∙◌}
-use Rattle.std.proofs.Common.{sym}
+use Rattle.std.proofs.Common.{◌∙◌, sym}
 use native.Mathlib.Omega.{arith}
 use Rattle.index.specs.State.{header_of}
 use Rattle.hits.specs.Hits.{score_at}
