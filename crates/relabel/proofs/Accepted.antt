@@ -10,7 +10,7 @@ use Rattle.lists.specs.Keep.{bit, count}
 use Rattle.lists.proofs.Keep.{each-mem, keep-none, length-keep}
 use Rattle.index.specs.declared.Index.{Index}
 use Rattle.index.specs.Arrays.{Arrays}
-use Rattle.index.specs.State.{Mark, keyed, is_live, state_of, alive_of, has_key, key_word, position}
+use Rattle.index.specs.State.{Mark, is_live, state_of, alive_of, has_key, key_word, position}
 use Rattle.index.specs.Fit.{fit}
 use Rattle.index.specs.Step.{flag, holds, remarked, step, relabel, relabelled}
 use Rattle.index.specs.Call.{call}
