@@ -1,10 +1,9 @@
 -- The call of a key question: refused by the first test, or else what is asked of the value.
 use mathlib.Core.Path.{◌≡◌, sym, ap, ◌∙◌}
-use mathlib.Core.Bool.{Bool, true, false, not}
+use mathlib.Core.Bool.{Bool, true, false}
 use mathlib.Core.Option.{Option}
 use Prim.Native.Nat.{ℕ}
 use lib.ListN.{get_elem?}
-use borrow.Author.Tests.{not-true, not-false}
 use Rattle.index.specs.declared.Index.{Index}
 use Rattle.index.specs.Arrays.{Arrays}
 use Rattle.index.specs.State.{state_of}
@@ -17,11 +16,11 @@ use Rattle.index.proofs.Calls.{call-misfit, call-answered}
 -- ---- the first test: r is what `fit::fits` answers
 
 module _ (x : Index) (a : Arrays) (r : Bool) (e : r ≡ fit x a) where
-  pub misfits : (op : Op) → not r ≡ true → result_of x a (refused 13) ≡ call x a op
-  misfits op f = sym (call-misfit x a op (sym e ∙ not-true r f))
+  pub misfits : (op : Op) → r ≡ false → result_of x a (refused 13) ≡ call x a op
+  misfits op f = sym (call-misfit x a op (sym e ∙ f))
 
-  pub fits : not r ≡ false → fit x a ≡ true
-  fits f = sym e ∙ not-false r f
+  pub fits : r ≡ true → fit x a ≡ true
+  fits f = sym e ∙ f
 
 -- ---- the questions
 
