@@ -17,7 +17,7 @@ use index::{Form, Index, Made};
 // ---- sizes
 
 // What a file has: what its version has, bytes of a block, slots, and how long its stages are.
-#[derive(Drop)]
+#[derive(Clone, Copy)]
 pub struct Sizes {
     pub form: Form,
     pub block: usize,
@@ -299,8 +299,8 @@ fn read_stage(
     block: usize,
     n: usize,
 )
-    requires n_bound { (n ≤ 65536) × (block ≤ 4096) × (n * block ≤ length codes.old) × (n ≤ length scales.old) }
-    requires is_scale { IsScale form.scale × (stage_size form block n ≤ length bytes.now) }
+    requires room { (n ≤ 65536) × (block ≤ 4096) × (n * block ≤ length codes.old) × (n ≤ length scales.old) }
+    requires bytes_fit { IsScale form.scale × (stage_size form block n ≤ length bytes.now) }
     ensures codes_after { codes.new ≡ over (blocks_of (tab (stage_from form block n bytes.now) n)) codes.old }
     ensures scales_after { scales.new ≡ over (scales_of (tab (stage_from form block n bytes.now) n)) scales.old }
 {
@@ -341,9 +341,9 @@ fn give_key(keys: &mut [u64], keyed: &mut [bool], n: usize, slot: usize, key: u6
 }
 
 fn give_keys(keys: &mut [u64], keyed: &mut [bool], table: &[u8], entries: u32, n: usize)
-    requires n_in_bounds { (n ≤ length keys.old) × (n ≤ length keyed.old) }
-    requires keys_value { keys.old ≡ over (tab (λ _. 0) n) keys.old }
-    requires keyed_value { keyed.old ≡ over (tab (λ _. false) n) keyed.old }
+    requires in_bounds { (n ≤ length keys.old) × (n ≤ length keyed.old) }
+    requires keys_clear { keys.old ≡ over (tab (λ _. 0) n) keys.old }
+    requires keyed_clear { keyed.old ≡ over (tab (λ _. false) n) keyed.old }
     ensures keys_after { keys.new ≡ over (tab (word_from table.now entries) n) keys.old }
     ensures keyed_after { keyed.new ≡ over (tab (on_from table.now entries) n) keyed.old }
 {
