@@ -12,7 +12,6 @@ use borrow.Author.Tests.{lt-ltb, le-ltb}
 use Rattle.lists.specs.Lists.{over}
 use Rattle.index.specs.declared.Index.{Index}
 use Rattle.index.specs.declared.Written.{Written}
-use Rattle.index.specs.declared.Written.TheVariants as Written
 use Rattle.index.specs.Arrays.{Arrays}
 use Rattle.index.specs.State.{header_of, state_of}
 use Rattle.index.specs.Fit.{fit}

@@ -122,9 +122,9 @@ module _ (h : Header) (a : Arrays) where
       ≡ cond b (map (stage_at h a.scales2 a.codes2) is) []
   unfolding slot_at second_stages
   seconds-by true e [] = refl
-  seconds-by true e (i ∷ is) = rw e (ap (λ (gs : List Stage). stage_at h a.scales2 a.codes2 i ∷ gs) (rw e at (seconds-by true e is)))
+  seconds-by true e (i ∷ is) = rw e (ap (λ (gs : List Stage). stage_at h a.scales2 a.codes2 i ∷ gs) (seconds-by true e is))
   seconds-by false e [] = refl
-  seconds-by false e (i ∷ is) = rw e (rw e at (seconds-by false e is))
+  seconds-by false e (i ∷ is) = rw e (seconds-by false e is)
 
   second-pieces : (n : ℕ) → stage_bytes (second_stages (entries n)) ≡ second_pieces h.residual a.codes2 a.scales2 a.alive (block_size h) n
   unfolding second_pieces joined

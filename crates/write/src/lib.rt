@@ -260,8 +260,8 @@ fn put_file(
     codes2: &[u8],
     scales2: &[u32],
 ) -> usize
-    requires block_value { block ≡ block_size (header_of index) }
-    requires n_in_bounds { 0 + length (file_pieces version (header_of index) codes.now scales.now keys.now keyed.now alive.now codes2.now scales2.now index.n)
+    requires block_is_size { block ≡ block_size (header_of index) }
+    requires pieces_fit { 0 + length (file_pieces version (header_of index) codes.now scales.now keys.now keyed.now alive.now codes2.now scales2.now index.n)
         ≤ length file.old }
     ensures { PutFrom (file_pieces version (header_of index) codes.now scales.now keys.now keyed.now alive.now
         codes2.now scales2.now index.n) 0 result file.old file.new }
