@@ -1,0 +1,9 @@
+use Rattle.words.proofs.Exports.{misfit-left, changed-left}
+use Rattle.change_exports.proofs.vecq_raw_remove_keyed_at.Goals as goal
+
+pub returns-in_default : goal.returns-in_default
+returns-in_default c = misfit-left _ _ _ _ c.record_beside.ensures _ _ c.in_default.is
+
+pub returns : goal.returns
+returns c =
+    changed-left _ _ _ c.record_beside.ensures _ c.in-Fields.is _ _ _ c.remove_keyed_at-removed_at.result c.remove_keyed_at-removed_at.ensures _ _ _ c.put_changed.ensures
