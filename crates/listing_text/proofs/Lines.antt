@@ -1,5 +1,5 @@
 -- The lines of a listing, put one piece after the other.
-use mathlib.Core.Path.{◌≡◌, refl, ap, ◌∙◌}
+use mathlib.Core.Path.{◌≡◌, refl, ◌∙◌}
 use mathlib.Core.Bool.{Bool, true, false}
 use mathlib.Core.List.{List, [], ◌∷◌, ◌++◌, append-nil}
 use Prim.Native.Nat.{ℕ, ◌+◌, ◌/◌, ◌%◌, ◌≤◌, ◌<◌}
@@ -7,7 +7,6 @@ use native.Mathlib.Nat.{le_antisymm}
 use native.Mathlib.Numerals.{add-one}
 use native.Mathlib.Omega.{arith}
 use lib.ListN.{length, get_or}
-use lib.Seq.{length-sets}
 use Rattle.lists.specs.Lists.{tab, joined}
 use Rattle.print.specs.Printed.{Prints}
 use Rattle.print.proofs.Places.{put_then}
@@ -60,6 +59,3 @@ module _ (line : ℕ → List ℕ) (n : ℕ) (d : List ℕ) (at : ℕ) where
 
   pub lines-all : (m : ℕ) (d' : List ℕ) (next i : ℕ) → n ≡ m → n ≤ i → Lines d' next i → Prints d at (joined (tab line m)) d' next
   lines-all m d' next i e h p = rw (le_antisymm p.some h ∙ e) at p.put
-
-  pub same-long : (d' : List ℕ) (next i : ℕ) → Lines d' next i → length d' ≡ length d
-  same-long d' next i p = ap length p.put.text ∙ length-sets d at (joined (tab line i))

@@ -55,8 +55,8 @@ fn refusal_of(made: Made) -> u8
 // The refusal of the file, 0 for none; where there is none, the arrays have the keys of its slots.
 fn read_keys(keys: &mut [u64], keyed: &mut [bool], file: &[u8]) -> u8
     requires { (length keys.old ≡ 1024) × (length keyed.old ≡ 1024) }
-    ensures value { result ≡ read_refusal file.now room }
-    ensures i_after { result ≡ 0 → (i : ℕ) → i < count_in file.now → key_at keys.new keyed.new i ≡ key_from (entries_in file.now) i }
+    ensures refusal { result ≡ read_refusal file.now room }
+    ensures keys_after { result ≡ 0 → (i : ℕ) → i < count_in file.now → key_at keys.new keyed.new i ≡ key_from (entries_in file.now) i }
 {
     let mut codes = code_bytes();
     let mut scales = words();
