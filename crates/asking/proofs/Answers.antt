@@ -78,6 +78,12 @@ pub not-other : (m : ℕ) → Other (Listed.Hits m) → ⊥
 not-other m (inl e) = omega (arith, e)
 not-other m (inr e) = omega (arith, e)
 
+-- or by what it is not
+pub is-other : (r : Listed) → ((m : ℕ) → r ≡ Listed.Hits m → ⊥) → Other r
+is-other (Listed.Hits m) h = absurd (h m refl)
+is-other Listed.Nan h = inl refl
+is-other Listed.Unable h = inr refl
+
 -- one more than the hits that are listed, 0 where none is
 abbrev hits_in : Listed → ℕ
 hits_in (Listed.Hits m) = suc m

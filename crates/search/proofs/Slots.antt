@@ -15,7 +15,6 @@ use Rattle.index.specs.Step as Step
 use Rattle.index.specs.Call.{call}
 use Rattle.index.specs.Answers.{result_of, found}
 use Rattle.hits.specs.declared.Listed.{Listed}
-use Rattle.hits.specs.declared.Listed.TheVariants as Listed
 use Rattle.hits.specs.Hits.{ready, shown, list_answer}
 use Rattle.asking.specs.Faults.{search_fault}
 use Rattle.asking.proofs.Cells.{scores, by-slot}
