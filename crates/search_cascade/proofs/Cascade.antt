@@ -35,7 +35,6 @@ use Rattle.nearest.specs.Nearest as Nearest
 use Rattle.score_slot.proofs.Query.{query-rotatable}
 use Rattle.scan.specs.Scan.{takes_part}
 use Rattle.hits.specs.declared.Listed.{Listed}
-use Rattle.hits.specs.declared.Listed.TheVariants as Listed
 use Rattle.hits.specs.Hits.{scored_slots, chosen, ready, shown, list_answer}
 use Rattle.asking.specs.Faults.{places_fault}
 use Rattle.asking.proofs.Cells.{scores, cells, hits-listed}
