@@ -15,7 +15,6 @@ use Rattle.lists.proofs.Front.{take-over}
 use Rattle.slot_keys.specs.Has.{key_at}
 use Rattle.index.specs.declared.Index.{Index}
 use Rattle.index.specs.declared.Found.{Found}
-use Rattle.index.specs.declared.Found.TheVariants as Found
 use Rattle.index.specs.Arrays.{Arrays}
 use Rattle.index.specs.State.{header_of, state_of}
 use Rattle.index.specs.Fit.{fit}
@@ -26,7 +25,6 @@ use Rattle.index.specs.Answers.{result_of, found_keyed}
 use Rattle.index.proofs.Lent.{pairs-there}
 use Rattle.held.proofs.Value.{mark-part}
 use Rattle.hits.specs.declared.Listed.{Listed}
-use Rattle.hits.specs.declared.Listed.TheVariants as Listed
 use Rattle.hits.specs.Hits.{ready, shown, list_answer}
 use Rattle.distinct.specs.Distinct.{hit_at, keyed_list, keyed_shown}
 use Rattle.search_keyed.specs.Named.{listed_count, keyed_of, named_answer}

@@ -1,9 +1,7 @@
 -- A keyed search by way of a list of hits (document 01, store.rs: "`search_keyed` drops unkeyed hits and repeats").
 use Rattle.std.specs.Prelude.{Bool, List, [], ℕ, length, take, Float}
 use Rattle.index.specs.declared.Found.{Found}
-use Rattle.index.specs.declared.Found.TheVariants as Found
 use Rattle.hits.specs.declared.Listed.{Listed}
-use Rattle.hits.specs.declared.Listed.TheVariants as Listed
 use Rattle.distinct.specs.Distinct.{keyed_shown}
 
 -- how many hits are listed
