@@ -7,27 +7,24 @@ use Rattle.relabel.proofs.relabel.Goals as goal
 
 pub relabel_slots-requires : goal.relabel_slots-requires
 relabel_slots-requires c =
-    let f = c in
-    let s = f in
-    let e = sym f.fits.ensures ∙ f.if-fits.true in
-    (room s.args.index ((lent s.args.codes.now s.args.scales.now s.args.keys.now s.args.keyed.now s.args.held.now s.args.alive.now s.args.codes2.now s.args.scales2.now)) e).keys
+    let a = lent c.args.codes.now c.args.scales.now c.args.keys.now c.args.keyed.now c.args.held.now c.args.alive.now c.args.codes2.now c.args.scales2.now in
+    let e = sym c.fits.ensures ∙ c.if-fits.true in
+    (room c.args.index a e).keys
 
 pub returns-then-may_relabel : goal.returns-then-may_relabel
 returns-then-may_relabel c =
-    let f = c in
-    let s = f in
-    let e = sym f.fits.ensures ∙ f.if-fits.true in
+    let a = lent c.args.codes.now c.args.scales.now c.args.keys.now c.args.keyed.now c.args.held.now c.args.alive.now c.args.codes2.now c.args.scales2.now in
+    let e = sym c.fits.ensures ∙ c.if-fits.true in
     let t = sym c.may_relabel.ensures ∙ c.if-may_relabel.true in
-    sym (relabel-yes s.args.index ((lent s.args.codes.now s.args.scales.now s.args.keys.now s.args.keyed.now s.args.held.now s.args.alive.now s.args.codes2.now s.args.scales2.now)) e s.args.old s.args.new t _ c.relabel_slots.ensures)
+    sym (relabel-yes c.args.index a e c.args.old c.args.new t _ c.relabel_slots.ensures)
 
 pub returns-then-fits : goal.returns-then-fits
 returns-then-fits c =
-    let f = c in
-    let s = f in
-    let e = sym f.fits.ensures ∙ f.if-fits.true in
-    sym (relabel-no s.args.index ((lent s.args.codes.now s.args.scales.now s.args.keys.now s.args.keyed.now s.args.held.now s.args.alive.now s.args.codes2.now s.args.scales2.now)) e s.args.old s.args.new (sym c.may_relabel.ensures ∙ c.if-may_relabel.false))
+    let a = lent c.args.codes.now c.args.scales.now c.args.keys.now c.args.keyed.now c.args.held.now c.args.alive.now c.args.codes2.now c.args.scales2.now in
+    let e = sym c.fits.ensures ∙ c.if-fits.true in
+    sym (relabel-no c.args.index a e c.args.old c.args.new (sym c.may_relabel.ensures ∙ c.if-may_relabel.false))
 
 pub returns : goal.returns
 returns c =
-    let s = c in
-    sym (call-misfit s.args.index ((lent s.args.codes.now s.args.scales.now s.args.keys.now s.args.keyed.now s.args.held.now s.args.alive.now s.args.codes2.now s.args.scales2.now)) _ (sym c.fits.ensures ∙ c.if-fits.false))
+    let a = lent c.args.codes.now c.args.scales.now c.args.keys.now c.args.keyed.now c.args.held.now c.args.alive.now c.args.codes2.now c.args.scales2.now in
+    sym (call-misfit c.args.index a _ (sym c.fits.ensures ∙ c.if-fits.false))

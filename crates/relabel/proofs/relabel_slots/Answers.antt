@@ -11,10 +11,9 @@ loop-i-init c = (omega arith, refl, sym (replaced-none _ _ _ _))
 
 pub loop-i-preserved : goal.loop-i-preserved
 loop-i-preserved c =
-    let s = c in
     let at = c.loop-i in
-    let l : at.i < length s.args.keys.now = omega (arith, s.requires, c.loop-i-test.true) in
-    let a = s.args in
+    let l : at.i < length c.args.keys.now = omega (arith, c.requires, c.loop-i-test.true) in
+    let a = c.args in
     let done = c.relabel_slot.ensures in
     let more = relabel-next a.keys.now a.keyed.now a.old a.new at.i _ _ l at.invariant.2 done in
     (omega (arith, c.loop-i-test.true), ap length more ∙ replaced-length _ _ _ _ (at.i + 1) (omega arith), more)

@@ -10,11 +10,11 @@ loop-i-init c = (omega arith, record { keyed = refl; held = refl; alive = refl }
 
 pub loop-i-preserved : goal.loop-i-preserved
 loop-i-preserved c =
-    let s = c in
+    let a = lent_marks c.args.keyed.now c.args.held.now c.args.alive.now in
     let at = c.loop-i in
     let t = c.loop-i-test.true in
-    let p = s.requires in
-    let r : Reach (at.i + 1) ((lent_marks s.args.keyed.now s.args.held.now s.args.alive.now)) = record { keyed = omega (arith, p.0, t); held = omega (arith, p.1, t); alive = omega (arith, p.2, t) } in
+    let p = c.requires in
+    let r : Reach (at.i + 1) a = record { keyed = omega (arith, p.0, t); held = omega (arith, p.1, t); alive = omega (arith, p.2, t) } in
     let done = c.remove_slot_of.ensures in
-    let more = remove-next s.args.keys.now s.args.key at.i ((lent_marks s.args.keyed.now s.args.held.now s.args.alive.now)) _ _ r at.invariant.2 done in
-    (omega (arith, t), dead-lengths _ ((lent_marks s.args.keyed.now s.args.held.now s.args.alive.now)) (at.i + 1) _ r more, more)
+    let more = remove-next c.args.keys.now c.args.key at.i a _ _ r at.invariant.2 done in
+    (omega (arith, t), dead-lengths _ a (at.i + 1) _ r more, more)
