@@ -1,0 +1,5 @@
+use Rattle.words.proofs.Words.{refusal-put}
+use Rattle.key_exports.proofs.put_keyed.Goals as goal
+
+pub returns-in-Refused : goal.returns-in-Refused
+returns-in-Refused c = rw c.in-Refused.is (refusal-put _ _)
