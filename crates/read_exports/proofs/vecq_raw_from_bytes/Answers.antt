@@ -1,0 +1,10 @@
+use native.Mathlib.Omega.{arith}
+use Rattle.words.proofs.Exports.{read_short, read_done}
+use Rattle.read_exports.proofs.vecq_raw_from_bytes.Goals as goal
+
+pub returns-then-fields-lt-RECORD_WORDS : goal.returns-then-fields-lt-RECORD_WORDS
+returns-then-fields-lt-RECORD_WORDS c = read_short _ _ _ c.if-fields-lt-RECORD_WORDS.true c.without_place.result c.without_place.ensures
+
+pub returns : goal.returns
+returns c =
+    read_done _ _ _ (omega (arith, c.if-fields-lt-RECORD_WORDS.false)) c.from_bytes-read.result _ c.from_bytes-read.ensures _ _ c.put_made.ensures
