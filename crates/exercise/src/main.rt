@@ -18,6 +18,7 @@ ghost use Rattle.std.specs.Prelude.{◌≡◌, cond, ◌-◌, ◌≤◌};
 use index::{Added, Asked, Changed, Found, Held, Index, Keyed, Made, Written};
 use lines::Cursor;
 use score::Scored;
+use std::io::Read;
 use values::{Number, Run};
 
 // ---- the program's arrays
@@ -56,14 +57,15 @@ fn marks() -> [u8; 4096] {
     [0; 4096]
 }
 
-fn main() {
+fn main(rt: HostRuntime) {
+    let mut reader = rt.stdin();
     let mut buf = input();
     let mut out = output();
-    run(&mut buf, &mut out);
+    run(&mut reader, &mut buf, &mut out);
 }
 
 // How many elements of each array are lent.
-#[derive(Drop)]
+#[derive(Clone, Copy)]
 struct Lengths {
     codes: usize,
     scales: usize,
@@ -112,21 +114,21 @@ struct State {
 }
 
 // Answers all lines.
-fn run(buf: &mut [u8], out: &mut [u8]) {
+fn run<R: Read>(reader: &mut R, buf: &mut [u8], out: &mut [u8]) {
     let mut state = State {
-        cursor: lines::next_line(buf, lines::START),
+        cursor: lines::next_line(reader, buf, lines::START),
         index: first_record(),
         lent: no_lengths(),
         fresh: false,
     };
     while 0 < state.cursor.left {
-        let next = answer_with_fresh(buf, out, state);
+        let next = answer_with_fresh(reader, buf, out, state);
         state = next;
     }
 }
 
 // Answers lines over the lent parts of arrays that are all 0, up to the line that lends arrays anew.
-fn answer_with_fresh(buf: &mut [u8], out: &mut [u8], state: State) -> State
+fn answer_with_fresh<R: Read>(reader: &mut R, buf: &mut [u8], out: &mut [u8], state: State) -> State
     ensures { result.cursor.left ≤ state.cursor.left - 1 }
 {
     let mut codes = code_bytes();
@@ -147,6 +149,7 @@ fn answer_with_fresh(buf: &mut [u8], out: &mut [u8], state: State) -> State
     let g = capped(lent.codes2, 1048576);
     let h = capped(lent.scales2, 4096);
     answer_lines(
+        reader,
         buf,
         out,
         &mut codes[0..a],
@@ -172,7 +175,8 @@ fn left_for(fresh: bool, left: u64) -> u64
 }
 
 // Answers a line, and those after it up to one that lends arrays anew.
-fn answer_lines(
+fn answer_lines<R: Read>(
+    reader: &mut R,
     buf: &mut [u8],
     out: &mut [u8],
     codes: &mut [u8],
@@ -191,7 +195,7 @@ fn answer_lines(
     let mut fresh = false;
     while 0 < left_for(fresh, state.cursor.left) {
         let next = turn(
-            buf, out, codes, scales, keys, keyed, held, alive, codes2, scales2, state,
+            reader, buf, out, codes, scales, keys, keyed, held, alive, codes2, scales2, state,
         );
         state = next;
         fresh = state.fresh;
@@ -200,7 +204,8 @@ fn answer_lines(
 }
 
 // One line, answered, and the next one read.
-fn turn(
+fn turn<R: Read>(
+    reader: &mut R,
     buf: &mut [u8],
     out: &mut [u8],
     codes: &mut [u8],
@@ -246,7 +251,7 @@ fn turn(
     print::print_line(out, replied.length);
     let next = replied.index;
     State {
-        cursor: lines::next_line(buf, cursor),
+        cursor: lines::next_line(reader, buf, cursor),
         index: next,
         lent: parts,
         fresh: call.command == 0,
@@ -265,7 +270,7 @@ fn capped(n: usize, most: usize) -> usize
 // ---- what a line asks for
 
 // The number of a line's command, its numbers, and how many entries or bytes come after them; 0 for what the line hasn't.
-#[derive(Drop)]
+#[derive(Clone, Copy)]
 struct Call {
     command: usize,
     a: u64,
