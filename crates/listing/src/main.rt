@@ -25,8 +25,8 @@ fn print_listing(file: &[u8]) {
 // The listing at the front of out: there is room for all of it (`TextFits`).
 fn list(out: &mut [u8], file: &[u8]) -> usize
     requires { 65536 ≡ length out.old }
-    ensures prefix_len { IsPrefixLen result out.new }
-    ensures out_after { take result out.new ≡ listing_text file.now }
+    ensures in_bounds { IsPrefixLen result out.new }
+    ensures text { take result out.new ≡ listing_text file.now }
 {
     listing_text::put_listing(out, file)
 }
