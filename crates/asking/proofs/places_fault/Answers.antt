@@ -9,14 +9,14 @@ returns-then-not-fits c = places-misfit _ _ _ _ (sym c.fits.ensures ∙ c.if-not
 pub returns-then-slots-needed : goal.returns-then-slots-needed
 returns-then-slots-needed c =
     let e = sym c.fits.ensures ∙ c.if-not-fits.false in
-    places-short _ _ _ _ e (omega (arith, c.places_needed-needed.ensures, c.if-slots-needed.true))
+    places-short _ _ _ _ e (omega (arith, c.places_needed-needed.ensures))
 
 pub returns-then-scores-needed : goal.returns-then-scores-needed
 returns-then-scores-needed c =
     let e = sym c.fits.ensures ∙ c.if-not-fits.false in
-    places-short _ _ _ _ e (omega (arith, c.places_needed-needed.ensures, c.if-scores-needed.true))
+    places-short _ _ _ _ e (omega (arith, c.places_needed-needed.ensures))
 
 pub returns : goal.returns
 returns c =
     let e = sym c.fits.ensures ∙ c.if-not-fits.false in
-    places-enough _ _ _ _ e (omega (arith, c.places_needed-needed.ensures, c.if-slots-needed.false, c.if-scores-needed.false))
+    places-enough _ _ _ _ e (omega (arith, c.places_needed-needed.ensures))
