@@ -3,61 +3,60 @@
 
 ghost use Rattle.std.specs.Prelude.{◌≡◌};
 ghost use Rattle.pattern.specs.Binary32.{sum_squares};
+ghost use Rattle.refusal.specs.Refusal.{fault_of};
 ghost use Rattle.vectors.specs.Vectors.{sum_fault, vector_fault, divided};
+
+use refusal::Refusal;
 
 // The squares, summed in index order.
 pub fn sum_squares(xs: &[f32]) -> f32
     ensures { result ≡ sum_squares xs.now }
 {
     let mut sum = 0.0f32;
-    let mut i = 0;
-    while i < xs.len() {
-        sum = sum + xs[i] * xs[i];
-        i += 1;
+    for x in xs {
+        sum = sum + *x * *x;
     }
     sum
 }
 
-// The refusal that a sum of squares calls for: 2 or 3, and 0 for none.
-fn sum_fault(sum: f32) -> u8
-    ensures { result ≡ sum_fault sum }
+// The refusal that a sum of squares calls for.
+fn check_sum(sum: f32) -> Result<(), Refusal>
+    ensures { fault_of result ≡ sum_fault sum }
 {
     if sum != sum {
-        return 2;
+        return Err(Refusal::ZeroOrNan);
     }
     if sum == 0.0 {
-        return 2;
+        return Err(Refusal::ZeroOrNan);
     }
     let infinity = 1.0f32 / 0.0;
     if sum == infinity {
-        return 3;
+        return Err(Refusal::Infinite);
     }
     if sum == -infinity {
-        return 3;
+        return Err(Refusal::Infinite);
     }
-    0
+    Ok(())
 }
 
-// The refusal of a vector or a query, for every call that takes one: 1, 2 or 3, and 0 for none.
-pub fn vector_fault(dim: usize, working_dim: usize, v: &[f32]) -> u8
-    ensures { result ≡ vector_fault dim working_dim v.now }
+// The refusal of a vector or a query, for every call that takes one: 1, 2 or 3.
+pub fn check(dim: usize, working_dim: usize, v: &[f32]) -> Result<(), Refusal>
+    ensures { fault_of result ≡ vector_fault dim working_dim v.now }
 {
     if v.len() != dim {
-        return 1;
+        return Err(Refusal::Length);
     }
     if working_dim < dim {
-        return sum_fault(sum_squares(&v[0..working_dim]));
+        return check_sum(sum_squares(&v[0..working_dim]));
     }
-    sum_fault(sum_squares(v))
+    check_sum(sum_squares(v))
 }
 
 // Each entry over the same number.
 pub fn divide(xs: &mut [f32], by: f32)
     ensures { xs.new ≡ divided by xs.old }
 {
-    let mut i = 0;
-    while i < xs.len() {
-        xs[i] = xs[i] / by;
-        i += 1;
+    for x in xs.iter_mut() {
+        *x = *x / by;
     }
 }

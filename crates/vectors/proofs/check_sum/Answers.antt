@@ -1,5 +1,5 @@
 use Rattle.vectors.proofs.FloatTests.{fault-nan, fault-zero, fault-infinity, fault-minus-infinity, no-fault}
-use Rattle.vectors.proofs.sum_fault.Goals as goal
+use Rattle.vectors.proofs.check_sum.Goals as goal
 
 pub returns-then-sum : goal.returns-then-sum
 returns-then-sum c = fault-nan _ c.if-sum.true

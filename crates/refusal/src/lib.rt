@@ -1,0 +1,56 @@
+// Why a call is turned down, by the numbers of document 01. There is no 10: no call gives it (02, Req 05).
+#![tactic(auto)]
+
+ghost use Rattle.std.specs.Prelude.{◌≡◌};
+ghost use Rattle.refusal.specs.Refusal.{number_of};
+
+#[derive(Clone, Copy, Debug, PartialEq, Eq)]
+pub enum Refusal {
+    // the vector's length is not dim
+    Length = 1,
+    // its sum of squares is zero or NaN
+    ZeroOrNan = 2,
+    // its sum of squares is infinite
+    Infinite = 3,
+    // dim outside 1..4,096, or working_dim outside 1..dim
+    Dims = 4,
+    // the width is not 4, 5 or 6
+    Width = 5,
+    // the width is set while slots are in use
+    SlotsInUse = 6,
+    // a residual index of width 5 or 6
+    ResidualWidth = 7,
+    // an append with as many slots in use as there is room for
+    Full = 8,
+    // a slot to score at or past those in use
+    NoSlot = 9,
+    // a cascade at width 5 or 6, or not enabled
+    NoCascade = 11,
+    // a score to be ranked or returned is NaN
+    ScoreNan = 12,
+    // record and lent arrays misfit
+    Misfit = 13,
+    // the file ends early
+    EndsEarly = 14,
+    // its first bytes are not VECQ
+    NotVecq = 15,
+    // its version is unknown
+    Version = 16,
+    // its working_dim is over dim, or dim is 0
+    FileDims = 17,
+    // its width byte is not 4, 5 or 6
+    FileWidth = 18,
+    // a key entry past the count, or a slot twice
+    KeyEntry = 19,
+    // its dim is over 4,096, or its count over 65,536 or over the lent arrays
+    TooLarge = 20,
+}
+
+// The number that the paper gives it.
+impl From<Refusal> for u8 {
+    ghost from_gives = { λ r n. n ≡ number_of r };
+
+    fn from(r: Refusal) -> u8 {
+        r as u8
+    }
+}
