@@ -14,7 +14,7 @@ use Rattle.lists.specs.Lists.{over}
 use Rattle.encode.specs.declared.Header.{Header}
 use Rattle.encode.specs.Coded.{fault}
 use Rattle.index.specs.declared.Index.{Index}
-use Rattle.index.specs.declared.Found.{Found}
+use Rattle.index.specs.Verdict.{Verdict, taken, turned_down}
 use Rattle.index.specs.Arrays.{Arrays}
 use Rattle.index.specs.State.{header_of}
 use Rattle.index.specs.Fit.{fit}
@@ -22,7 +22,7 @@ use Rattle.index.specs.Step.{Query, Op, Answer, hits, first_of, when, unless, hi
 use Rattle.lists.specs.Keep.{any}
 use Rattle.index.specs.Call.{call}
 use Rattle.index.specs.Answers.{result_of, hit_count, found, LaterKept}
-use Rattle.index.proofs.Lent.{pairs-there}
+use Rattle.index.proofs.Determined.{pairs-there}
 use Rattle.fit.proofs.Meaning.{meaning}
 use Rattle.fit.proofs.Rooms.{enough}
 use Rattle.score_slot.proofs.Query.{width-in, query-rotatable}
@@ -32,7 +32,7 @@ use Rattle.hits.specs.Hits.{scored_slots, chosen, shown, list_answer, ready}
 use Rattle.asking.proofs.Cells.{scores, cells, hits-nan}
 
 -- what a search leaves: its answer by `tell`, which is `found` or `found_keyed`, and the later places of both slices
-abbrev pub Leaves : Index → Arrays → Op → (tell : Found → List ℕ → List Float → Answer) → Found → (ns ms : List ℕ) → (ss ts : List Float) → Type 0
+abbrev pub Leaves : Index → Arrays → Op → (tell : Verdict ℕ → List ℕ → List Float → Answer) → Verdict ℕ → (ns ms : List ℕ) → (ss ts : List Float) → Type 0
 Leaves x a op tell r ns ms ss ts = (result_of x a (tell r ms ts) ≡ call x a op) × (LaterKept (hit_count r) ns ms × LaterKept (hit_count r) ss ts)
 
 -- ---- refusals one after the other
@@ -124,13 +124,13 @@ module _ (score : ℕ → Float) (marks : List ℕ) (n : ℕ) (can : Bool) (k pl
       module _ (x : Index) (a : Arrays) (op : Op) (answers : result_of x a (unless (when nan 12) (hits (chosen score marks n k))) ≡ call x a op)
           (ns ms : List ℕ) (ss ts : List Float) (f : ms ≡ over (map (λ e. e.0) (shown score marks n k r)) ns)
           (g : ts ≡ over (map (λ e. e.1) (shown score marks n k r)) ss) where
-        pub leaves-hits : (m : ℕ) → r ≡ Listed.Hits m → Leaves x a op found (Found.Hits m) ns ms ss ts
+        pub leaves-hits : (m : ℕ) → r ≡ Listed.Hits m → Leaves x a op found (taken m) ns ms ss ts
         leaves-hits m e =
             let sound = some-hits m e in
             let there = pairs-there (chosen score marks n k) ns ss m ms ts sound.1 (rw e at f) (rw e at g) in
             (ap (λ (es : List (ℕ × Float)). result_of x a (hits es)) there.0 ∙ ap (λ (b : Bool). result_of x a (unless (when b 12) (hits (chosen score marks n k)))) (sym sound.0) ∙ answers, there.1)
 
-        pub leaves_none : Other r → Leaves x a op found (Found.Refused 12) ns ms ss ts
+        pub leaves_none : Other r → Leaves x a op found (turned_down 12) ns ms ss ts
         unfolding over
         leaves_none e =
             let none = no-hits e in (

@@ -22,9 +22,7 @@ use Rattle.score.specs.Order.{order_number}
 use Rattle.encode.specs.declared.Header.{Header}
 use Rattle.encode.specs.Coded.{Code, no_spare, spare_of}
 use Rattle.index.specs.declared.Index.{Index}
-use Rattle.index.specs.declared.Made.TheVariants as Made
-use Rattle.index.specs.declared.Found.{Found}
-use Rattle.index.specs.declared.Written.{Written}
+use Rattle.index.specs.Verdict.{Verdict, taken, turned_down}
 use Rattle.index.specs.Arrays.{Arrays}
 use Rattle.index.specs.State.{Slot, live, header_of, state_of}
 use Rattle.index.specs.Codec.{encoded, score_of}
@@ -265,10 +263,10 @@ made_header (with_working_dim dim working seed) = new_header dim working seed fa
 -- The record x and the arrays a of a start: accepted calls, over any arrays. "a new index is just made, its width set or left as made; a read one comes from an
 -- accepted reading".
 pub data Start (x : Index) (a : Arrays) : Type 0 where
-  as_made : (m : Making) (b : Arrays) → make (made_header m) b ≡ begun (Made.Index x) a → Start x a
-  with_width : (m : Making) (b : Arrays) (y : Index) (c : Arrays) (width : ℕ) → make (made_header m) b ≡ begun (Made.Index y) c → call y c (set_bits width) ≡
+  as_made : (m : Making) (b : Arrays) → make (made_header m) b ≡ begun (taken x) a → Start x a
+  with_width : (m : Making) (b : Arrays) (y : Index) (c : Arrays) (width : ℕ) → make (made_header m) b ≡ begun (taken y) c → call y c (set_bits width) ≡
       result_of x a done → Start x a
-  as_read : (file : List ℕ) (b : Arrays) → read_into b file ≡ begun (Made.Index x) a → Start x a
+  as_read : (file : List ℕ) (b : Arrays) → read_into b file ≡ begun (taken x) a → Start x a
 
 abbrev pub live_arrival : Cell → LiveArrival
 live_arrival c = record { arrival = c.number; key = key_of_mark c.slot.mark; code = c.slot.code }
@@ -379,7 +377,7 @@ told_in file = record { header = header_in file; next = count_in file; living = 
 
 -- what is told at a read start is what the file tells
 abbrev pub ToldAsFiled : Type 0
-ToldAsFiled = (file : List ℕ) (b : Arrays) (x : Index) (a : Arrays) → read_into b file ≡ begun (Made.Index x) a → (begin x a).told ≡ told_in file
+ToldAsFiled = (file : List ℕ) (b : Arrays) (x : Index) (a : Arrays) → read_into b file ≡ begun (taken x) a → (begin x a).told ≡ told_in file
 
 -- ---- laws beside the claims: along a run
 
@@ -497,8 +495,8 @@ AlwaysFiles = (x : Index) (a : Arrays) → Start x a → (h : History) → Files
 -- ---- laws beside the claims: what lent slices hold
 
 -- What a search may hand back, and leave in the slices that it was lent, by its contract: `shown` is `found`, and `found_keyed` for a keyed search. A slice keeps its length.
-pub record Leaves (shown : Found → List ℕ → List Float → Answer) (m : Moment) (numbers : List ℕ) (scores : List Float) : Type 0 where
-  pub handed : Found
+pub record Leaves (shown : Verdict ℕ → List ℕ → List Float → Answer) (m : Moment) (numbers : List ℕ) (scores : List Float) : Type 0 where
+  pub handed : Verdict ℕ
   pub numbers_after : List ℕ
   pub scores_after : List Float
   pub answered : shown handed numbers_after scores_after ≡ (called m.before m.op).answer
@@ -507,7 +505,7 @@ pub record Leaves (shown : Found → List ℕ → List Float → Answer) (m : Mo
 
 -- and a writing in the file that it was lent
 pub record Writes (m : Moment) (file : List ℕ) : Type 0 where
-  pub handed : Written
+  pub handed : Verdict ℕ
   pub file_after : List ℕ
   pub answered : wrote handed file_after ≡ (called m.before m.op).answer
   pub kept : LaterKept (byte_count handed) file file_after

@@ -8,7 +8,7 @@ pub mod Encoded
 pub mod Changes
 pub mod Kept
 pub mod Calls
-pub mod Lent
+pub mod Determined
 pub mod Places
 pub mod Read
 pub mod Questions

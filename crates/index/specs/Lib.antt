@@ -1,5 +1,7 @@
 -- What a reader must believe: the index as a value, the arrays that hold it, what each call does, and when record and arrays misfit.
 pub mod Arrays
+pub mod Lent
+pub mod Verdict
 pub mod State
 pub mod Fit
 pub mod Codec

@@ -1,7 +1,8 @@
 -- Making an index: `new`, `with_working_dim`, `with_residual`. They are lent the arrays, which stay as they are.
 use Rattle.std.specs.Prelude.{Bool, false, not, cond, ◌&&◌, [], ◌∷◌, ℕ, zero, suc, eqb}
 use Rattle.encode.specs.declared.Header.{Header}
-use Rattle.index.specs.declared.Made.{Made}
+use Rattle.index.specs.declared.Index.{Index}
+use Rattle.index.specs.Verdict.{Verdict, taken, turned_down}
 use Rattle.index.specs.Arrays.{Arrays}
 use Rattle.index.specs.State.{State, capacity, record_of}
 use Rattle.index.specs.Fit.{between}
@@ -21,15 +22,15 @@ make_refusal h a =
 
 -- what making and reading hand back and leave
 pub record Begun : Type 0 where
-  pub answer : Made
+  pub answer : Verdict Index
   pub arrays : Arrays
 
-abbrev pub begun : Made → Arrays → Begun
+abbrev pub begun : Verdict Index → Arrays → Begun
 begun r a = record { answer = r; arrays = a }
 
 abbrev pub make_unless : (refusal : ℕ) → Header → Arrays → Begun
-make_unless zero h a = begun (Made.Index (record_of (empty h))) a
-make_unless (suc n) h a = begun (Made.Refused (suc n)) a
+make_unless zero h a = begun (taken (record_of (empty h))) a
+make_unless (suc n) h a = begun (turned_down (suc n)) a
 
 unfoldable pub make : Header → Arrays → Begun
 make h a = make_unless (make_refusal h a) h a

@@ -1,6 +1,9 @@
 // The record of an index, the answers of its calls, what a version of a file has, and the specification that all of them cite (specs/).
 #![tactic(auto)]
 
+ghost use Rattle.std.specs.Prelude.{◌≡◌};
+ghost use Rattle.index.specs.Lent.{contents, contents_mut};
+
 // What the index is beside its lent arrays. It goes in by value and comes back in the answer.
 #[derive(Clone, Copy)]
 pub struct Index {
@@ -14,64 +17,55 @@ pub struct Index {
     pub cascade: bool,
 }
 
-// Making, a width call, enabling the cascade, compaction, reading.
+// The eight arrays that a caller lends to be read (specs/Arrays.antt).
 #[derive(Clone, Copy)]
-pub enum Made {
-    Index(Index),
-    Refused(u8),
+pub struct Lent<'a> {
+    pub codes: &'a [u8],
+    pub scales: &'a [u32],
+    pub keys: &'a [u64],
+    pub keyed: &'a [bool],
+    pub held: &'a [u32],
+    pub alive: &'a [u8],
+    pub codes2: &'a [u8],
+    pub scales2: &'a [u32],
 }
 
-// The three adding calls.
-#[derive(Clone, Copy)]
-pub enum Added {
-    Slot(usize, Index),
-    Refused(u8),
+// The same, lent to be changed.
+#[derive(Drop)]
+pub struct LentMut<'a> {
+    pub codes: &'a mut [u8],
+    pub scales: &'a mut [u32],
+    pub keys: &'a mut [u64],
+    pub keyed: &'a mut [bool],
+    pub held: &'a mut [u32],
+    pub alive: &'a mut [u8],
+    pub codes2: &'a mut [u8],
+    pub scales2: &'a mut [u32],
 }
 
-// Relabelling and the two removals.
-#[derive(Clone, Copy)]
-pub enum Changed {
-    Yes(Index),
-    No,
-    Refused(u8),
+impl LentMut<'_> {
+    // To be read.
+    pub fn view(&self) -> Lent<'_>
+        ensures { contents result ≡ contents_mut self.now }
+    {
+        Lent {
+            codes: &*self.codes,
+            scales: &*self.scales,
+            keys: &*self.keys,
+            keyed: &*self.keyed,
+            held: &*self.held,
+            alive: &*self.alive,
+            codes2: &*self.codes2,
+            scales2: &*self.scales2,
+        }
+    }
 }
 
-// Whether a key has a slot.
+// What the adding calls answer: the slot, and the record after it.
 #[derive(Clone, Copy)]
-pub enum Asked {
-    Yes,
-    No,
-    Refused(u8),
-}
-
-// The key of a slot.
-#[derive(Clone, Copy)]
-pub enum Keyed {
-    Key(u64),
-    None,
-    Refused(u8),
-}
-
-// The slot of a key at a held position.
-#[derive(Clone, Copy)]
-pub enum Held {
-    Slot(usize),
-    None,
-    Refused(u8),
-}
-
-// How many hits stand in the lent results.
-#[derive(Clone, Copy)]
-pub enum Found {
-    Hits(usize),
-    Refused(u8),
-}
-
-// How many bytes stand in the lent file, or would.
-#[derive(Clone, Copy)]
-pub enum Written {
-    Bytes(usize),
-    Refused(u8),
+pub struct Added {
+    pub slot: usize,
+    pub index: Index,
 }
 
 // What a version of the byte form has: whether it is read, how many bytes a scale takes, and whether there is a width byte, a second stage, a key table,

@@ -9,7 +9,8 @@ use Rattle.lists.specs.Lists.{tab, over}
 use Rattle.lists.proofs.Laws.{length-tab, get_or-tab}
 use Rattle.lists.proofs.Front.{get_d_front, map-tab}
 use Rattle.slot_keys.specs.Has.{key_at}
-use Rattle.index.specs.declared.Made.{Made}
+use Rattle.index.specs.declared.Index.{Index}
+use Rattle.index.specs.Verdict.{Verdict, taken, turned_down}
 use Rattle.index.specs.Arrays.{Arrays}
 use Rattle.index.specs.State.{Mark, keyed, has_key, key_word, overlay}
 use Rattle.index.specs.Make.{Begun, begun}
@@ -56,7 +57,7 @@ module _ (file : List ℕ) (a : Arrays) where
   unfolding read_into
   accepted-arrays e = ap (λ (n : ℕ). (read_unless n a file).arrays) e
 
-  module _ (r : Made) (b : Arrays) (e : begun r b ≡ read_into a file) (s : SameLengths a room) (n : ℕ) (f : n ≡ refusal_of r) where
+  module _ (r : Verdict Index) (b : Arrays) (e : begun r b ≡ read_into a file) (s : SameLengths a room) (n : ℕ) (f : n ≡ refusal_of r) where
     number_is : n ≡ read_refusal file a
     number_is = f ∙ ap (λ (x : Begun). refusal_of x.answer) e ∙ answer-refusal
 

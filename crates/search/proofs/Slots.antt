@@ -7,7 +7,7 @@ use lib.ListN.{length}
 use lib.Ieee.{Float}
 use Rattle.lists.specs.Lists.{over}
 use Rattle.index.specs.declared.Index.{Index}
-use Rattle.index.specs.declared.Found.TheVariants as Found
+use Rattle.index.specs.Verdict.{Verdict, taken, turned_down}
 use Rattle.index.specs.Arrays.{Arrays}
 use Rattle.index.specs.State.{header_of, state_of}
 use Rattle.index.specs.Step.{Query, Hit, Answer, hits, when, unless, live_from, by_slot, searched, answered, step}
@@ -32,7 +32,7 @@ module _ (x : Index) (a : Arrays) (q : Query) (k places : ℕ) where
 
   -- f is the number that the tests gave
   module _ (f : ℕ) (e : f ≡ search_fault x a q k places) (ns : List ℕ) (ss : List Float) where
-    pub slots-refused : (f ≡ 0 → ⊥) → Leaves x a (Step.search q k places) found (Found.Refused f) ns ns ss ss
+    pub slots-refused : (f ≡ 0 → ⊥) → Leaves x a (Step.search q k places) found (turned_down f) ns ns ss ss
     slots-refused some = (search-refused x a q k places (Step.search q k places) by_slots is f e some, (refl, refl))
 
     abbrev can : Bool
@@ -53,12 +53,12 @@ module _ (x : Index) (a : Arrays) (q : Query) (k places : ℕ) where
           (λ j. result_of x a (unless (when (live_nan x a q) 12) (hits (sym (by-slot (header_of x) a (live_chosen x a q k)) j))))
           ∙ search-listed x a q k places (Step.search q k places) by_slots is none
 
-      pub slots-listed : (m : ℕ) → r ≡ Listed.Hits m → Leaves x a (Step.search q k places) found (Found.Hits m) ns ms ss ts
+      pub slots-listed : (m : ℕ) → r ≡ Listed.Hits m → Leaves x a (Step.search q k places) found (taken m) ns ms ss ts
       slots-listed m o =
           leaves-hits (scores (header_of x) a q) a.alive x.n can k places yes (chosen-places x a q k places none) r g
           x a (Step.search q k places) answers ns ms ss ts h i m o
 
-      pub slots-nan : Other r → Leaves x a (Step.search q k places) found (Found.Refused 12) ns ms ss ts
+      pub slots-nan : Other r → Leaves x a (Step.search q k places) found (turned_down 12) ns ms ss ts
       slots-nan o =
           leaves_none (scores (header_of x) a q) a.alive x.n can k places yes (chosen-places x a q k places none) r g
           x a (Step.search q k places) answers ns ms ss ts h i o

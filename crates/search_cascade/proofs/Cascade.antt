@@ -16,7 +16,7 @@ use Rattle.score.specs.Order.{order_number}
 use Rattle.lists.proofs.Tests.{both}
 use Rattle.encode.specs.Coded.{fault}
 use Rattle.index.specs.declared.Index.{Index}
-use Rattle.index.specs.declared.Found.TheVariants as Found
+use Rattle.index.specs.Verdict.{Verdict, taken, turned_down}
 use Rattle.index.specs.Arrays.{Arrays}
 use Rattle.index.specs.State.{header_of, slot_at, state_of}
 use Rattle.index.specs.Fit.{fit}
@@ -152,7 +152,7 @@ module _ (x : Index) (a : Arrays) (q : Query) (k r places : ℕ) where
       go (suc s) w f o = refl
 
   module _ (f : ℕ) (is : f ≡ cascade_fault x a q k places) (ns : List ℕ) (ss : List Float) where
-    pub cascade-refused : (f ≡ 0 → ⊥) → Leaves x a (Step.search_cascade q k r places) found (Found.Refused f) ns ns ss ss
+    pub cascade-refused : (f ≡ 0 → ⊥) → Leaves x a (Step.search_cascade q k r places) found (turned_down f) ns ns ss ss
     unfolding cascade_fault places_fault first_of step
     cascade-refused some = (go (fit x a) (enabled x) refl refl, (refl, refl))
       where
@@ -238,12 +238,12 @@ module _ (x : Index) (a : Arrays) (q : Query) (k r places : ℕ) where
         module _ (l : Listed) (ms : List ℕ) (ts : List Float) (g : l ≡ list_answer (scores (header_of x) a q) marks x.n can k places)
             (h : ms ≡ over (map (λ e. e.0) (shown (scores (header_of x) a q) marks x.n k l)) ns)
             (i : ts ≡ over (map (λ e. e.1) (shown (scores (header_of x) a q) marks x.n k l)) ss) where
-          pub cascade-listed : (m : ℕ) → l ≡ Listed.Hits m → Leaves x a (Step.search_cascade q k r places) found (Found.Hits m) ns ms ss ts
+          pub cascade-listed : (m : ℕ) → l ≡ Listed.Hits m → Leaves x a (Step.search_cascade q k r places) found (taken m) ns ms ss ts
           cascade-listed m o =
               leaves-hits (scores (header_of x) a q) marks x.n can k places yes listed-fits l g
               x a (Step.search_cascade q k r places) answers ns ms ss ts h i m o
 
-          pub cascade-nan : Other l → Leaves x a (Step.search_cascade q k r places) found (Found.Refused 12) ns ms ss ts
+          pub cascade-nan : Other l → Leaves x a (Step.search_cascade q k r places) found (turned_down 12) ns ms ss ts
           cascade-nan o =
               leaves_none (scores (header_of x) a q) marks x.n can k places yes listed-fits l g
               x a (Step.search_cascade q k r places) answers ns ms ss ts h i o

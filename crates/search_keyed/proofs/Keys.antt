@@ -14,7 +14,7 @@ use Rattle.lists.specs.Keep.{Each}
 use Rattle.lists.proofs.Front.{take-over}
 use Rattle.slot_keys.specs.Has.{key_at}
 use Rattle.index.specs.declared.Index.{Index}
-use Rattle.index.specs.declared.Found.{Found}
+use Rattle.index.specs.Verdict.{Verdict, taken, turned_down}
 use Rattle.index.specs.Arrays.{Arrays}
 use Rattle.index.specs.State.{header_of, state_of}
 use Rattle.index.specs.Fit.{fit}
@@ -22,7 +22,7 @@ use Rattle.index.specs.Step.{Query, Hit, Answer, key_hits, when, live_from, by_k
 use Rattle.index.specs.Step as Step
 use Rattle.index.specs.Call.{call}
 use Rattle.index.specs.Answers.{result_of, found_keyed}
-use Rattle.index.proofs.Lent.{pairs-there}
+use Rattle.index.proofs.Determined.{pairs-there}
 use Rattle.held.proofs.Value.{mark-part}
 use Rattle.hits.specs.declared.Listed.{Listed}
 use Rattle.hits.specs.Hits.{ready, shown, list_answer}
@@ -51,12 +51,12 @@ slots-hits x a e (y ∷ es) low =
 -- `name_hits`
 module _ (keys : List ℕ) (keyed : List Bool) (us : List ℕ) (ws : List Float) (places : ℕ) where
   -- the answer is that of the hits `r`, and both results are written over with their keys
-  abbrev Names : (r : Listed) (s : Found) (ns ms : List ℕ) (ss ls : List Float) → Type 0
+  abbrev Names : (r : Listed) (s : Verdict ℕ) (ns ms : List ℕ) (ss ls : List Float) → Type 0
   Names r s ns ms ss ls =
       (s ≡ named_answer r (keyed_of keys keyed us ws places r)) ×
       ((ms ≡ over (map (λ y. y.0) (keyed_of keys keyed us ws places r)) ns) × (ls ≡ over (map (λ y. y.1) (keyed_of keys keyed us ws places r)) ss))
 
-  pub none_named : (r : Listed) → Other r → (ns : List ℕ) (ss : List Float) → Names r (Found.Refused 12) ns ns ss ss
+  pub none_named : (r : Listed) → Other r → (ns : List ℕ) (ss : List Float) → Names r (turned_down 12) ns ns ss ss
   unfolding over
   none_named (Listed.Hits m) o ns ss = absurd (not-other m o)
   none_named Listed.Nan o ns ss = (refl, (refl, refl))
@@ -70,9 +70,9 @@ module _ (keys : List ℕ) (keyed : List Bool) (us : List ℕ) (ws : List Float)
   same r m e = ap (λ (z : ℕ). keyed_shown keys keyed (take z us) (take z ws) places) (sub-zero m) ∙ ap (keyed_of keys keyed us ws places) (sym e)
 
   pub named-hits : (r : Listed) (m : ℕ) → r ≡ Listed.Hits m → (n : ℕ) (ns ms : List ℕ) (ss ls : List Float) →
-      n ≡ length (first m) → ms ≡ over (map (λ y. y.0) (first m)) ns → ls ≡ over (map (λ y. y.1) (first m)) ss → Names r (Found.Hits n) ns ms ss ls
+      n ≡ length (first m) → ms ≡ over (map (λ y. y.0) (first m)) ns → ls ≡ over (map (λ y. y.1) (first m)) ss → Names r (taken n) ns ms ss ls
   named-hits r m e n ns ms ss ls i j l = (
-    ap Found.Hits (i ∙ ap length (same r m e)) ∙ ap (λ (f : Listed). named_answer f (keyed_of keys keyed us ws places r)) (sym e),
+    ap taken (i ∙ ap length (same r m e)) ∙ ap (λ (f : Listed). named_answer f (keyed_of keys keyed us ws places r)) (sym e),
     (
       j ∙ ap (λ (es : List (ℕ × Float)). over (map (λ y. y.0) es) ns) (same r m e),
       l ∙ ap (λ (es : List (ℕ × Float)). over (map (λ y. y.1) es) ss) (same r m e),
@@ -93,7 +93,7 @@ module _ (x : Index) (a : Arrays) (q : Query) (k places : ℕ) where
 
   -- f is the number that the tests gave
   module _ (f : ℕ) (e : f ≡ search_fault x a q k places) where
-    pub keys-refused : (f ≡ 0 → ⊥) → (ns : List ℕ) (ss : List Float) → Leaves x a (Step.search_keyed q k places) found_keyed (Found.Refused f) ns ns ss ss
+    pub keys-refused : (f ≡ 0 → ⊥) → (ns : List ℕ) (ss : List Float) → Leaves x a (Step.search_keyed q k places) found_keyed (turned_down f) ns ns ss ss
     keys-refused some ns ss = (search-refused x a q k places (Step.search_keyed q k places) by_keys is f e some, (refl, refl))
 
   -- Where the tests found no fault: after `hits::list` into working arrays of `room` places.
@@ -145,7 +145,7 @@ module _ (x : Index) (a : Arrays) (q : Query) (k places : ℕ) where
           (ap (by_key []) (slots-hits x a fits es (chosen-low (header_of x) a q a.alive x.n k)))
 
       -- what is left of the call by it
-      module _ (s : Found) (ns ms : List ℕ) (ss ls : List Float) (h : s ≡ named_answer r (written r))
+      module _ (s : Verdict ℕ) (ns ms : List ℕ) (ss ls : List Float) (h : s ≡ named_answer r (written r))
           (i : ms ≡ over (map (λ y. y.0) (written r)) ns) (l : ls ≡ over (map (λ y. y.1) (written r)) ss) where
         abbrev shown_as : Bool → Answer
         shown_as b = shown_by x a q k by_keys (when b 12)
@@ -165,5 +165,5 @@ module _ (x : Index) (a : Arrays) (q : Query) (k places : ℕ) where
 
         pub keys-named : Leaves x a (Step.search_keyed q k places) found_keyed s ns ms ss ls
         keys-named =
-            subst (λ (f : Found). Leaves x a (Step.search_keyed q k places) found_keyed f ns ms ss ls)
+            subst (λ (f : Verdict ℕ). Leaves x a (Step.search_keyed q k places) found_keyed f ns ms ss ls)
             (sym (h ∙ ap (λ (l : Listed). named_answer l (written l)) (g ∙ gives (live_nan x a q) refl))) (named (live_nan x a q) refl)

@@ -1,6 +1,6 @@
 -- A keyed search by way of a list of hits (document 01, store.rs: "`search_keyed` drops unkeyed hits and repeats").
 use Rattle.std.specs.Prelude.{Bool, List, [], ℕ, length, take, Float}
-use Rattle.index.specs.declared.Found.{Found}
+use Rattle.index.specs.Verdict.{Verdict, taken, turned_down}
 use Rattle.hits.specs.declared.Listed.{Listed}
 use Rattle.distinct.specs.Distinct.{keyed_shown}
 
@@ -17,7 +17,7 @@ keyed_of keys keyed slots scores places Listed.Nan = []
 keyed_of keys keyed slots scores places Listed.Unable = []
 
 -- how many keys are listed where hits are, and else 12: after a search's tests the list can be made, so that a score is NaN
-abbrev pub named_answer : Listed → List (ℕ × Float) → Found
-named_answer (Listed.Hits m) es = Found.Hits (length es)
-named_answer Listed.Nan es = Found.Refused 12
-named_answer Listed.Unable es = Found.Refused 12
+abbrev pub named_answer : Listed → List (ℕ × Float) → Verdict ℕ
+named_answer (Listed.Hits m) es = taken (length es)
+named_answer Listed.Nan es = turned_down 12
+named_answer Listed.Unable es = turned_down 12

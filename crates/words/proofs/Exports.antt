@@ -12,14 +12,8 @@ use Rattle.lists.specs.Lists.{over}
 use Rattle.encode.specs.declared.Header.{Header}
 use Rattle.score.specs.declared.Scored.{Scored}
 use Rattle.index.specs.declared.Index.{Index}
-use Rattle.index.specs.declared.Made.{Made}
+use Rattle.index.specs.Verdict.{Verdict, taken, turned_down}
 use Rattle.index.specs.declared.Added.{Added}
-use Rattle.index.specs.declared.Changed.{Changed}
-use Rattle.index.specs.declared.Asked.{Asked}
-use Rattle.index.specs.declared.Keyed.{Keyed}
-use Rattle.index.specs.declared.Held.{Held}
-use Rattle.index.specs.declared.Found.{Found}
-use Rattle.index.specs.declared.Written.{Written}
 use Rattle.index.specs.Arrays.{Arrays}
 use Rattle.index.specs.State.{record_of}
 use Rattle.index.specs.Step.{first_of, Op, Answer, refused, flag, slot}
@@ -73,28 +67,28 @@ module _ (places : ℕ) (fs ws : List ℕ) (r : Record) (e : r ≡ record_beside
         (λ i. left (q i).number (kept i) (q i).words a) ∙ by_call op a (result_of x a t) g
 
 -- how many words a question answers at most
-pub asked-words : (t : Asked) → length (in_words (asked t)).words ≤ 1
-asked-words Asked.Yes = omega arith
-asked-words Asked.No = omega arith
-asked-words (Asked.Refused n) = omega arith
+pub asked-words : (t : Verdict Bool) → length (in_words (asked t)).words ≤ 1
+asked-words (taken true) = omega arith
+asked-words (taken false) = omega arith
+asked-words (turned_down n) = omega arith
 
-pub keyed-words : (t : Keyed) → length (in_words (key_is t)).words ≤ 2
-keyed-words (Keyed.Key k) = omega arith
-keyed-words Keyed.None = omega arith
-keyed-words (Keyed.Refused n) = omega arith
+pub keyed-words : (t : Verdict (Option ℕ)) → length (in_words (key_is t)).words ≤ 2
+keyed-words (taken (Some k)) = omega arith
+keyed-words (taken None) = omega arith
+keyed-words (turned_down n) = omega arith
 
-pub held-words : (t : Held) → length (in_words (held_is t)).words ≤ 2
-held-words (Held.Slot i) = omega arith
-held-words Held.None = omega arith
-held-words (Held.Refused n) = omega arith
+pub held-words : (t : Verdict (Option ℕ)) → length (in_words (held_is t)).words ≤ 2
+held-words (taken (Some i)) = omega arith
+held-words (taken None) = omega arith
+held-words (turned_down n) = omega arith
 
 pub scored-words : (t : Scored) → length (in_words (scored t)).words ≤ 1
 scored-words (Scored.Score x) = omega arith
 scored-words (Scored.Refused n) = omega arith
 
-pub length-words : (t : Written) → length (in_words (length_is t)).words ≤ 1
-length-words (Written.Bytes n) = omega arith
-length-words (Written.Refused n) = omega arith
+pub length-words : (t : Verdict ℕ) → length (in_words (length_is t)).words ≤ 1
+length-words (taken n) = omega arith
+length-words (turned_down n) = omega arith
 
 -- ---- a word beside the record
 
@@ -117,15 +111,15 @@ module _ (fs ws : List ℕ) (r : Record) (e : r ≡ record_beside 1 fs ws) where
           left n fs' ws' b ≡ left_by 1 op fs ws a
       by_both o g q l n fs' ws' p = ap (λ (z : PutBoth). left z.number z.fields z.answer b) p ∙ l ∙ by_call 1 fs ws r e x is op a o g
 
-      pub added-left : (d : Added) → added x d b ≡ call x a op → (n : ℕ) (fs' ws' : List ℕ) → put_both n fs' ws' ≡ put_added d fs ws → left n fs' ws' b ≡ left_by 1 op fs ws a
-      added-left (Added.Slot i y) g = by_both _ g _ (next-left y i (slot i) refl b)
-      added-left (Added.Refused k) g = by_both _ g _ (refusal-left 1 fs ws r e x is k b)
+      pub added-left : (d : Verdict Added) → added x d b ≡ call x a op → (n : ℕ) (fs' ws' : List ℕ) → put_both n fs' ws' ≡ put_added d fs ws → left n fs' ws' b ≡ left_by 1 op fs ws a
+      added-left (taken y) g = by_both _ g _ (next-left y i (slot i) refl b)
+      added-left (turned_down k) g = by_both _ g _ (refusal-left 1 fs ws r e x is k b)
 
-      pub changed-left : (d : Changed) → changed x d b ≡ call x a op → (n : ℕ) (fs' ws' : List ℕ) → put_both n fs' ws' ≡ put_changed d fs ws → left n fs' ws' b ≡ left_by 1 op fs ws a
-      changed-left (Changed.Yes y) g = by_both _ g _ (next-left y 1 (flag true) refl b)
-      changed-left Changed.No g =
+      pub changed-left : (d : Verdict (Option Index)) → changed x d b ≡ call x a op → (n : ℕ) (fs' ws' : List ℕ) → put_both n fs' ws' ≡ put_changed d fs ws → left n fs' ws' b ≡ left_by 1 op fs ws a
+      changed-left (taken (Some y)) g = by_both _ g _ (next-left y 1 (flag true) refl b)
+      changed-left (taken None) g =
           by_both _ g _ (λ i. left (sym (words-put 0 (0 ∷ []) ws place) i).number (kept 1 fs ws r e x is i) (sym (words-put 0 (0 ∷ []) ws place) i).words b)
-      changed-left (Changed.Refused k) g = by_both _ g _ (refusal-left 1 fs ws r e x is k b)
+      changed-left (turned_down k) g = by_both _ g _ (refusal-left 1 fs ws r e x is k b)
 
     -- of a call that leaves the index as it is
     module _ (op : Op) (a b : Arrays) where
@@ -137,31 +131,31 @@ module _ (fs ws : List ℕ) (r : Record) (e : r ≡ record_beside 1 fs ws) where
       not-0 t g h = never-0 x a op (sym (ap (λ (o : Result). o.answer) g) ∙ h)
 
       -- `tell` is `found` or `found_keyed`
-      pub list_done : (tell : Found → List ℕ → List Float → Answer) → ((n : ℕ) (ns : List ℕ) (ss : List Float) → tell (Found.Refused n) ns ss ≡ refused n) →
-          (f : Found) (ns ms : List ℕ) (ss ts : List Float) →
+      pub list_done : (tell : Verdict ℕ → List ℕ → List Float → Answer) → ((n : ℕ) (ns : List ℕ) (ss : List Float) → tell (turned_down n) ns ss ≡ refused n) →
+          (f : Verdict ℕ) (ns ms : List ℕ) (ss ts : List Float) →
           (result_of x b (tell f ms ts) ≡ call x a op) × (LaterKept (hit_count f) ns ms × LaterKept (hit_count f) ss ts) →
           (n : ℕ) (ws' : List ℕ) → put n ws' ≡ put_found f ws →
           (tell (found_in n ws') ms ts ≡ answer_beside op a fs ws)
           × (LaterKept (word_count n) ws ws' × (LaterKept (hit_count (found_in n ws')) ns ms × LaterKept (hit_count (found_in n ws')) ss ts))
       list_done tell of f ns ms ss ts g n ws' p =
-          let some : f ≡ Found.Refused 0 → ⊥ = λ h. not-0 (tell f ms ts) g.0 (ap (λ (k : Found). tell k ms ts) h ∙ of 0 ms ts) in
+          let some : f ≡ turned_down 0 → ⊥ = λ h. not-0 (tell f ms ts) g.0 (ap (λ (k : Verdict ℕ). tell k ms ts) h ∙ of 0 ms ts) in
           let told = found-told ws (place) f some n ws' p in
-          subst (λ (k : Found). (tell k ms ts ≡ answer_beside op a fs ws) × (LaterKept (word_count n) ws ws' × (LaterKept (hit_count k) ns ms × LaterKept (hit_count k) ss ts)))
+          subst (λ (k : Verdict ℕ). (tell k ms ts ≡ answer_beside op a fs ws) × (LaterKept (word_count n) ws ws' × (LaterKept (hit_count k) ns ms × LaterKept (hit_count k) ss ts)))
           (sym told.0) (by_answer (tell f ms ts) g.0, (told.1, g.1))
 
-      pub write_done : (f : Written) (file next : List ℕ) → (result_of x b (wrote f next) ≡ call x a op) × LaterKept (byte_count f) file next →
+      pub write_done : (f : Verdict ℕ) (file next : List ℕ) → (result_of x b (wrote f next) ≡ call x a op) × LaterKept (byte_count f) file next →
           (n : ℕ) (ws' : List ℕ) → put n ws' ≡ put_answer (length_is f) ws →
           (wrote (written_in n ws') next ≡ answer_beside op a fs ws) × (LaterKept (word_count n) ws ws' × LaterKept (byte_count (written_in n ws')) file next)
       write_done f file next g n ws' p =
-          let some : f ≡ Written.Refused 0 → ⊥ = λ h. not-0 (wrote f next) g.0 (ap (λ (k : Written). wrote k next) h) in
+          let some : f ≡ turned_down 0 → ⊥ = λ h. not-0 (wrote f next) g.0 (ap (λ (k : Verdict ℕ). wrote k next) h) in
           let told = written-told ws (place) f some n ws' p in
-          subst (λ (k : Written). (wrote k next ≡ answer_beside op a fs ws) × (LaterKept (word_count n) ws ws' × LaterKept (byte_count k) file next))
+          subst (λ (k : Verdict ℕ). (wrote k next ≡ answer_beside op a fs ws) × (LaterKept (word_count n) ws ws' × LaterKept (byte_count k) file next))
           (sym told.0) (by_answer (wrote f next) g.0, (told.1, g.1))
 
 -- ---- the record alone
 
 -- what is written of a record that has places
-record-put : (fs : List ℕ) → record_words ≤ length fs → (y : Index) → put 0 (over (words_of y) fs) ≡ put_made (Made.Index y) fs
+record-put : (fs : List ℕ) → record_words ≤ length fs → (y : Index) → put 0 (over (words_of y) fs) ≡ put_made (taken y) fs
 unfolding words_of
 record-put fs h y = words-put 0 (words_of y) fs h
 
@@ -179,10 +173,10 @@ module _ (fs : List ℕ) (r : Record) (e : r ≡ record_in fs) (op : Op) (a : Ar
         left n fs' [] b ≡ left_by 0 op fs [] a
     by-record o g q l n fs' p = ap (λ (z : Put). left z.number z.words [] b) p ∙ l ∙ by_call 0 fs [] r (e ∙ beside_none fs) x is op a o g
 
-    pub made-left : (d : Made) → made x d b ≡ call x a op → (n : ℕ) (fs' : List ℕ) → put n fs' ≡ put_made d fs → left n fs' [] b ≡ left_by 0 op fs [] a
+    pub made-left : (d : Verdict Index) → made x d b ≡ call x a op → (n : ℕ) (fs' : List ℕ) → put n fs' ≡ put_made d fs → left n fs' [] b ≡ left_by 0 op fs [] a
     unfolding over
-    made-left (Made.Index y) g = by-record _ g _ (ap (λ (q : Put). left q.number q.words [] b) (sym (record-put fs (eight fs x (sym is ∙ e)) y)))
-    made-left (Made.Refused k) g = by-record _ g _ (refusal-left 0 fs [] r (e ∙ beside_none fs) x is k b)
+    made-left (taken y) g = by-record _ g _ (ap (λ (q : Put). left q.number q.words [] b) (sym (record-put fs (eight fs x (sym is ∙ e)) y)))
+    made-left (turned_down k) g = by-record _ g _ (refusal-left 0 fs [] r (e ∙ beside_none fs) x is k b)
 
 -- a refusal, and 13 where there is none
 pub refused-else : (n : ℕ) → (n ≡ 0 → ⊥) → n ≡ first_of (n ∷ 13 ∷ [])
@@ -206,7 +200,7 @@ module _ (file fs : List ℕ) (a : Arrays) where
       go zero = ap (λ (q : Put). left q.number q.words [] (cond (eqb q.number 0) (read_unless 0 a file).arrays a)) (words-short 0 (words_of (record_of (state_in file))) fs h)
       go (suc m) = rw (ne_eqb (suc m) 0 (λ q. omega (arith, q)))
 
-  pub read_done : record_words ≤ length fs → (d : Made) (b : Arrays) → begun d b ≡ read_into a file → (n : ℕ) (fs' : List ℕ) → put n fs' ≡ put_made d fs → left n fs' [] b ≡ reads file fs a
+  pub read_done : record_words ≤ length fs → (d : Verdict Index) (b : Arrays) → begun d b ≡ read_into a file → (n : ℕ) (fs' : List ℕ) → put n fs' ≡ put_made d fs → left n fs' [] b ≡ reads file fs a
   unfolding reads read_into words_of
   read_done h d b g n fs' p =
       ap (λ (q : Put). left q.number q.words [] b) p ∙ ap (λ (y : Begun). left (put_made y.answer fs).number (put_made y.answer fs).words [] y.arrays) g
@@ -219,7 +213,7 @@ module _ (file fs : List ℕ) (a : Arrays) where
       go (suc m) = rw (ne_eqb (suc m) 0 (λ q. omega (arith, q)))
 
 -- making
-pub make-done : (h : Header) (a : Arrays) (d : Made) → begun d a ≡ make h a → (fs : List ℕ) (n : ℕ) (fs' : List ℕ) → put n fs' ≡ put_made d fs →
+pub make-done : (h : Header) (a : Arrays) (d : Verdict Index) → begun d a ≡ make h a → (fs : List ℕ) (n : ℕ) (fs' : List ℕ) → put n fs' ≡ put_made d fs →
     left n fs' [] a ≡ makes h fs a
 unfolding makes
 make-done h a d g fs n fs' p =

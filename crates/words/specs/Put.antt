@@ -6,10 +6,8 @@ use Rattle.std.specs.Float.Ieee.{to_bits}
 use Rattle.lists.specs.Lists.{over}
 use Rattle.lists.specs.Keep.{bit}
 use Rattle.index.specs.declared.Index.{Index}
-use Rattle.index.specs.declared.Made.{Made}
+use Rattle.index.specs.Verdict.{Verdict, taken, turned_down}
 use Rattle.index.specs.declared.Added.{Added}
-use Rattle.index.specs.declared.Changed.{Changed}
-use Rattle.index.specs.declared.Found.{Found}
 use Rattle.index.specs.Step.{Answer, refused, done, flag, slot, maybe_slot, maybe_key, score_is, hits, key_hits, size, bytes}
 use Rattle.words.specs.Words.{record_words, words_of}
 
@@ -51,14 +49,14 @@ abbrev pub put_answer : Answer → (answer : List ℕ) → Put
 put_answer t ws = put_words (in_words t).number (in_words t).words ws
 
 -- the words of the record
-abbrev pub put_made : Made → (fields : List ℕ) → Put
-put_made (Made.Index x) fs = put_words 0 (words_of x) fs
-put_made (Made.Refused n) fs = put n fs
+abbrev pub put_made : Verdict Index → (fields : List ℕ) → Put
+put_made (taken x) fs = put_words 0 (words_of x) fs
+put_made (turned_down n) fs = put n fs
 
 -- how many hits
-abbrev pub put_found : Found → (answer : List ℕ) → Put
-put_found (Found.Hits m) ws = put_words 0 (m ∷ []) ws
-put_found (Found.Refused n) ws = put n ws
+abbrev pub put_found : Verdict ℕ → (answer : List ℕ) → Put
+put_found (taken m) ws = put_words 0 (m ∷ []) ws
+put_found (turned_down n) ws = put n ws
 
 -- ---- the same of two slices: the words of the record, and those of the answer
 
@@ -75,14 +73,14 @@ put_next x new fs ws =
     cond (ltb (length fs) record_words || ltb (length ws) (length new)) (put_both 13 fs ws) (put_both 0 (over (words_of x) fs) (over new ws))
 
 -- the slot
-abbrev pub put_added : Added → (fields answer : List ℕ) → PutBoth
-put_added (Added.Slot i x) fs ws = put_next x (i ∷ []) fs ws
-put_added (Added.Refused n) fs ws = put_both n fs ws
+abbrev pub put_added : Verdict Added → (fields answer : List ℕ) → PutBoth
+put_added (taken x) fs ws = put_next x (i ∷ []) fs ws
+put_added (turned_down n) fs ws = put_both n fs ws
 
 -- yes, or no, which hands back no record
-abbrev pub put_changed : Changed → (fields answer : List ℕ) → PutBoth
-put_changed (Changed.Yes x) fs ws = put_next x (1 ∷ []) fs ws
-put_changed Changed.No fs ws =
+abbrev pub put_changed : Verdict (Option Index) → (fields answer : List ℕ) → PutBoth
+put_changed (taken (Some x)) fs ws = put_next x (1 ∷ []) fs ws
+put_changed (taken None) fs ws =
     let p = put_words 0 (0 ∷ []) ws in
     put_both p.number fs p.words
-put_changed (Changed.Refused n) fs ws = put_both n fs ws
+put_changed (turned_down n) fs ws = put_both n fs ws

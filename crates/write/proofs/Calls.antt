@@ -11,7 +11,7 @@ use lib.Dec.{ltb}
 use borrow.Author.Tests.{lt-ltb, le-ltb}
 use Rattle.lists.specs.Lists.{over}
 use Rattle.index.specs.declared.Index.{Index}
-use Rattle.index.specs.declared.Written.{Written}
+use Rattle.index.specs.Verdict.{Verdict, taken, turned_down}
 use Rattle.index.specs.Arrays.{Arrays}
 use Rattle.index.specs.State.{header_of, state_of}
 use Rattle.index.specs.Fit.{fit}
@@ -20,7 +20,7 @@ use Rattle.index.specs.Step.{Answer, refused, size, bytes, file_length, write, l
 use Rattle.index.specs.Call.{Result, call}
 use Rattle.index.specs.Answers.{result_of, byte_count, wrote, LaterKept}
 use Rattle.index.proofs.Calls.{call-misfit, call-answered}
-use Rattle.index.proofs.Lent.{entries-there}
+use Rattle.index.proofs.Determined.{entries-there}
 use Rattle.write.specs.Put.{PutFrom}
 use Rattle.write.specs.Pieces.{file_pieces}
 use Rattle.write.proofs.Pieces.{file-pieces}
@@ -65,10 +65,10 @@ module _ (x : Index) (a : Arrays) where
 
   module _ (old : List ℕ) where
     -- what the call leaves: its answer, and the later places of the file
-    abbrev Leaves : Written → (next : List ℕ) → Type 0
+    abbrev Leaves : Verdict ℕ → (next : List ℕ) → Type 0
     Leaves r next = (result_of x a (wrote r next) ≡ call x a (write (length old))) × LaterKept (byte_count r) old next
 
-    pub write-misfit : (k : ℕ) → fit x a ≡ false → k ≡ 13 → Leaves (Written.Refused k) old
+    pub write-misfit : (k : ℕ) → fit x a ≡ false → k ≡ 13 → Leaves (turned_down k) old
     write-misfit k e f = (ap (λ (n : ℕ). result_of x a (refused n)) f ∙ sym (call-misfit x a (write (length old)) e), refl)
 
     module _ (e : fit x a ≡ true) where
@@ -76,11 +76,11 @@ module _ (x : Index) (a : Arrays) where
       unfolding step state_of
       answer r f = sym (call-answered x a (write (length old)) e r (ap (answered (state_of x a)) f))
 
-      pub write-short : (n : ℕ) → n ≡ length file → length old < n → Leaves (Written.Refused 13) old
+      pub write-short : (n : ℕ) → n ≡ length file → length old < n → Leaves (turned_down 13) old
       write-short n f l = (answer (refused 13) (rw (lt-ltb (length old) (length file) (omega arith))), refl)
 
       pub write_done : (v n next : ℕ) (new : List ℕ) → ((es : List Entry) → v ≡ version_of (header_of x) es) → n ≡ length file → n ≤ length old
-          → PutFrom (pieces v) 0 next old new → Leaves (Written.Bytes n) new
+          → PutFrom (pieces v) 0 next old new → Leaves (taken n) new
       unfolding state_of over
       write_done v n next new d f l p =
           let first = entries-there file old n new f there in

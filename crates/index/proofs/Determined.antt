@@ -9,8 +9,7 @@ use Rattle.pattern.specs.Binary32.{+0}
 use Rattle.lists.specs.Lists.{over}
 use Rattle.lists.proofs.Laws.{get_d_default, length-tab, get_or-tab}
 use Rattle.lists.proofs.Front.{get_d_front, get_or-over-map, drop-over, front_rest, tab-is}
-use Rattle.index.specs.declared.Found.{Found}
-use Rattle.index.specs.declared.Written.{Written}
+use Rattle.index.specs.Verdict.{Verdict, taken, turned_down}
 use Rattle.index.specs.Step.{refused, hits, key_hits, bytes}
 use Rattle.index.specs.Answers.{hit_count, byte_count, first_entries, first_pairs, found, found_keyed, wrote, LaterKept}
 
@@ -40,19 +39,19 @@ module _ (bs file : List ℕ) where
 -- ---- so they are determined: by the answer, and by what the slices held before
 
 -- what is left after a call in slices that held ns and ss
-pub record Left (ns : List ℕ) (ss : List Float) (r : Found) (ms : List ℕ) (ts : List Float) : Type 0 where
+pub record Left (ns : List ℕ) (ss : List Float) (r : Verdict ℕ) (ms : List ℕ) (ts : List Float) : Type 0 where
   pub numbers-long : length ms ≡ length ns
   pub scores-long : length ts ≡ length ss
   pub numbers-kept : LaterKept (hit_count r) ns ms
   pub scores-kept : LaterKept (hit_count r) ss ts
 
 module _ (ns : List ℕ) (ss : List Float) (ms ms' : List ℕ) (ts ts' : List Float) where
-  abbrev Same : (r r' : Found) → Type 0
+  abbrev Same : (r r' : Verdict ℕ) → Type 0
   Same r r' = (r ≡ r') × ((ms ≡ ms') × (ts ≡ ts'))
 
-  same-hits : (m m' : ℕ) → Left ns ss (Found.Hits m) ms ts → Left ns ss (Found.Hits m') ms' ts' → first_pairs m ms ts ≡ first_pairs m' ms' ts' → Same (Found.Hits m) (Found.Hits m')
+  same-hits : (m m' : ℕ) → Left ns ss (taken m) ms ts → Left ns ss (taken m') ms' ts' → first_pairs m ms ts ≡ first_pairs m' ms' ts' → Same (taken m) (taken m')
   same-hits m m' l l' e = (
-    ap Found.Hits many,
+    ap taken many,
     (
       front_rest m 0 ms ms' (l.numbers-long ∙ sym l'.numbers-long) (λ i h. ap (λ (p : ℕ × Float). p.0) (at i h))
           (l.numbers-kept ∙ ap (λ (n : ℕ). drop n ns) many ∙ sym l'.numbers-kept ∙ ap (λ (n : ℕ). drop n ms') (sym many)),
@@ -75,27 +74,27 @@ module _ (ns : List ℕ) (ss : List Float) (ms ms' : List ℕ) (ts ts' : List Fl
           sym (get_or-tab pair m i (0, +0) h) ∙ ap (λ (es : List (ℕ × Float)). get_or es i (0, +0)) e
           ∙ get_or-tab pair' m' i (0, +0) (subst (λ (n : ℕ). i < n) many h)
 
-  same-refused : (n n' : ℕ) → Left ns ss (Found.Refused n) ms ts → Left ns ss (Found.Refused n') ms' ts' → n ≡ n' → Same (Found.Refused n) (Found.Refused n')
-  same-refused n n' l l' e = (ap Found.Refused e, (l.numbers-kept ∙ sym l'.numbers-kept, l.scores-kept ∙ sym l'.scores-kept))
+  same-refused : (n n' : ℕ) → Left ns ss (turned_down n) ms ts → Left ns ss (turned_down n') ms' ts' → n ≡ n' → Same (turned_down n) (turned_down n')
+  same-refused n n' l l' e = (ap turned_down e, (l.numbers-kept ∙ sym l'.numbers-kept, l.scores-kept ∙ sym l'.scores-kept))
 
-  pub found-determines : (r r' : Found) → Left ns ss r ms ts → Left ns ss r' ms' ts' → found r ms ts ≡ found r' ms' ts' → Same r r'
-  found-determines (Found.Hits m) (Found.Hits m') l l' e = same-hits m m' l l' (let f : hits (first_pairs m ms ts) ≡ hits (first_pairs m' ms' ts') = e in cc)
-  found-determines (Found.Refused n) (Found.Refused n') l l' e = same-refused n n' l l' (let f : refused n ≡ refused n' = e in cc)
-  found-determines (Found.Hits m) (Found.Refused n) l l' e = absurd (let f : hits (first_pairs m ms ts) ≡ refused n = e in let z : ◌≡◌ {A = ℕ} 0 1 = cc in omega arith)
-  found-determines (Found.Refused n) (Found.Hits m) l l' e = absurd (let f : refused n ≡ hits (first_pairs m ms' ts') = e in let z : ◌≡◌ {A = ℕ} 0 1 = cc in omega arith)
+  pub found-determines : (r r' : Verdict ℕ) → Left ns ss r ms ts → Left ns ss r' ms' ts' → found r ms ts ≡ found r' ms' ts' → Same r r'
+  found-determines (taken m) (taken m') l l' e = same-hits m m' l l' (let f : hits (first_pairs m ms ts) ≡ hits (first_pairs m' ms' ts') = e in cc)
+  found-determines (turned_down n) (turned_down n') l l' e = same-refused n n' l l' (let f : refused n ≡ refused n' = e in cc)
+  found-determines (taken m) (turned_down n) l l' e = absurd (let f : hits (first_pairs m ms ts) ≡ refused n = e in let z : ◌≡◌ {A = ℕ} 0 1 = cc in omega arith)
+  found-determines (turned_down n) (taken m) l l' e = absurd (let f : refused n ≡ hits (first_pairs m ms' ts') = e in let z : ◌≡◌ {A = ℕ} 0 1 = cc in omega arith)
 
-  pub keyed-determines : (r r' : Found) → Left ns ss r ms ts → Left ns ss r' ms' ts' → found_keyed r ms ts ≡ found_keyed r' ms' ts' → Same r r'
-  keyed-determines (Found.Hits m) (Found.Hits m') l l' e = same-hits m m' l l' (let f : key_hits (first_pairs m ms ts) ≡ key_hits (first_pairs m' ms' ts') = e in cc)
-  keyed-determines (Found.Refused n) (Found.Refused n') l l' e = same-refused n n' l l' (let f : refused n ≡ refused n' = e in cc)
-  keyed-determines (Found.Hits m) (Found.Refused n) l l' e = absurd (let f : key_hits (first_pairs m ms ts) ≡ refused n = e in let z : ◌≡◌ {A = ℕ} 0 1 = cc in omega arith)
-  keyed-determines (Found.Refused n) (Found.Hits m) l l' e = absurd (let f : refused n ≡ key_hits (first_pairs m ms' ts') = e in let z : ◌≡◌ {A = ℕ} 0 1 = cc in omega arith)
+  pub keyed-determines : (r r' : Verdict ℕ) → Left ns ss r ms ts → Left ns ss r' ms' ts' → found_keyed r ms ts ≡ found_keyed r' ms' ts' → Same r r'
+  keyed-determines (taken m) (taken m') l l' e = same-hits m m' l l' (let f : key_hits (first_pairs m ms ts) ≡ key_hits (first_pairs m' ms' ts') = e in cc)
+  keyed-determines (turned_down n) (turned_down n') l l' e = same-refused n n' l l' (let f : refused n ≡ refused n' = e in cc)
+  keyed-determines (taken m) (turned_down n) l l' e = absurd (let f : key_hits (first_pairs m ms ts) ≡ refused n = e in let z : ◌≡◌ {A = ℕ} 0 1 = cc in omega arith)
+  keyed-determines (turned_down n) (taken m) l l' e = absurd (let f : refused n ≡ key_hits (first_pairs m ms' ts') = e in let z : ◌≡◌ {A = ℕ} 0 1 = cc in omega arith)
 
 -- the same of a file
 module _ (file next next' : List ℕ) (long : length next ≡ length file) (long' : length next' ≡ length file) where
   same_bytes : (m m' : ℕ) → LaterKept m file next → LaterKept m' file next' → first_entries m next ≡ first_entries m' next' →
-      (Written.Bytes m ≡ Written.Bytes m') × (next ≡ next')
+      (taken m ≡ taken m') × (next ≡ next')
   same_bytes m m' l l' e = (
-    ap Written.Bytes many,
+    ap taken many,
     front_rest m 0 next next' (long ∙ sym long')
         (λ i h. sym (get_or-tab (λ i. get_or next i 0) m i 0 h) ∙ ap (λ (bs : List ℕ). get_or bs i 0) e ∙ get_or-tab (λ i. get_or next' i 0) m' i 0 (subst (λ (n : ℕ). i < n) many h))
         (l ∙ ap (λ (n : ℕ). drop n file) many ∙ sym l' ∙ ap (λ (n : ℕ). drop n next') (sym many)),
@@ -104,8 +103,8 @@ module _ (file next next' : List ℕ) (long : length next ≡ length file) (long
       many : m ≡ m'
       many = sym (length-tab (λ i. get_or next i 0) m) ∙ ap length e ∙ length-tab (λ i. get_or next' i 0) m'
 
-  pub wrote-determines : (r r' : Written) → LaterKept (byte_count r) file next → LaterKept (byte_count r') file next' → wrote r next ≡ wrote r' next' → (r ≡ r') × (next ≡ next')
-  wrote-determines (Written.Bytes m) (Written.Bytes m') l l' e = same_bytes m m' l l' (let f : bytes (first_entries m next) ≡ bytes (first_entries m' next') = e in cc)
-  wrote-determines (Written.Refused n) (Written.Refused n') l l' e = (ap Written.Refused (let f : refused n ≡ refused n' = e in cc), l ∙ sym l')
-  wrote-determines (Written.Bytes m) (Written.Refused n) l l' e = absurd (let f : bytes (first_entries m next) ≡ refused n = e in let z : ◌≡◌ {A = ℕ} 0 1 = cc in omega arith)
-  wrote-determines (Written.Refused n) (Written.Bytes m) l l' e = absurd (let f : refused n ≡ bytes (first_entries m next') = e in let z : ◌≡◌ {A = ℕ} 0 1 = cc in omega arith)
+  pub wrote-determines : (r r' : Verdict ℕ) → LaterKept (byte_count r) file next → LaterKept (byte_count r') file next' → wrote r next ≡ wrote r' next' → (r ≡ r') × (next ≡ next')
+  wrote-determines (taken m) (taken m') l l' e = same_bytes m m' l l' (let f : bytes (first_entries m next) ≡ bytes (first_entries m' next') = e in cc)
+  wrote-determines (turned_down n) (turned_down n') l l' e = (ap turned_down (let f : refused n ≡ refused n' = e in cc), l ∙ sym l')
+  wrote-determines (taken m) (turned_down n) l l' e = absurd (let f : bytes (first_entries m next) ≡ refused n = e in let z : ◌≡◌ {A = ℕ} 0 1 = cc in omega arith)
+  wrote-determines (turned_down n) (taken m) l l' e = absurd (let f : refused n ≡ bytes (first_entries m next') = e in let z : ◌≡◌ {A = ℕ} 0 1 = cc in omega arith)
