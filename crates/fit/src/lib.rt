@@ -2,12 +2,14 @@
 #![tactic(auto)]
 
 ghost use Rattle.std.specs.Prelude.{◌≡◌, false, ℕ, ◌≤◌, ◌<◌, length, get_or};
-ghost use Rattle.index.specs.Arrays.{lent};
+ghost use Rattle.index.specs.Lent.{contents};
 ghost use Rattle.index.specs.Fit.{fit};
 ghost use Rattle.positions.specs.Decides.{Decides};
+ghost use Rattle.fit.specs.Tested.{Tested};
 ghost use Rattle.fit.specs.Fits.{Fields, Marked, EachMarked, live_marks, Marks};
 
-use index::Index;
+use index::{Index, Lent};
+use refusal::Refusal;
 
 // ---- the record
 
@@ -39,8 +41,6 @@ fn fields_fit(index: Index) -> bool
     true
 }
 
-// ---- room
-
 // ---- marks
 
 // Whether a mark is 0 or 1, and 1 if the slot has a key.
@@ -55,10 +55,8 @@ fn each_fits(keyed: &[bool], alive: &[u8]) -> bool
     ensures { Decides result (EachMarked keyed.now alive.now (length keyed.now)) }
 {
     let mut all = true;
-    let mut i = 0;
-    while i < keyed.len() {
+    for i in 0..keyed.len() {
         all = all & mark_fits(keyed[i], marks::live_mark(alive, i));
-        i += 1;
     }
     all
 }
@@ -70,10 +68,8 @@ fn live_total(alive: &[u8]) -> usize
     ensures { result ≡ live_marks alive.now (length alive.now) }
 {
     let mut many: u32 = 0;
-    let mut i = 0;
-    while i < alive.len() {
+    for i in 0..alive.len() {
         many += marks::live_mark(alive, i) as u32;
-        i += 1;
     }
     many as usize
 }
@@ -91,32 +87,30 @@ fn marks_fit(keyed: &[bool], alive: &[u8], n: usize, live: usize) -> bool
 
 // ---- the test
 
-// Refusal 13, for the index's part: false where a call is to be refused.
-pub fn fits(
-    index: Index,
-    codes: &[u8],
-    scales: &[u32],
-    keys: &[u64],
-    keyed: &[bool],
-    held: &[u32],
-    alive: &[u8],
-    codes2: &[u8],
-    scales2: &[u32],
-) -> bool
-    ensures { result ≡ fit index (lent codes.now scales.now keys.now keyed.now held.now alive.now codes2.now scales2.now) }
+// Refusal 13, for the index's part: whether record and arrays fit.
+pub fn fits(index: Index, arrays: &Lent<'_>) -> bool
+    ensures { result ≡ fit index (contents arrays.now) }
 {
     if fields_fit(index) {
         let n = index.n;
-        let room = room::capacity(
-            index, codes, scales, keys, keyed, held, alive, codes2, scales2,
-        );
+        let room = room::capacity(index, arrays);
         if room < n {
             return false;
         }
-        if marks_fit(keyed, alive, n, index.live) {
-            return positions::positions_fit(keys, keyed, held, n);
+        if marks_fit(arrays.keyed, arrays.alive, n, index.live) {
+            return positions::positions_fit(arrays.keys, arrays.keyed, arrays.held, n);
         }
         return false;
     }
     false
+}
+
+// The same as a refusal, which comes first in every call on a record.
+pub fn check(index: Index, arrays: &Lent<'_>) -> Result<(), Refusal>
+    ensures { Tested (fit index (contents arrays.now)) result }
+{
+    if fits(index, arrays) {
+        return Ok(());
+    }
+    Err(Refusal::Misfit)
 }

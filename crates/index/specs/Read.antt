@@ -11,7 +11,7 @@ use Rattle.codes.specs.Stage.{Stage}
 use Rattle.encode.specs.declared.Header.{Header}
 use Rattle.encode.specs.Header.{block_size}
 use Rattle.index.specs.declared.Form.{Form}
-use Rattle.index.specs.Verdict.{Verdict, taken, turned_down}
+use Rattle.index.specs.Verdict.{taken, turned_down}
 use Rattle.index.specs.Arrays.{Arrays}
 use Rattle.index.specs.State.{Mark, unkeyed, keyed, Slot, State, capacity, record_of, overlay}
 use Rattle.index.specs.Fit.{between}

@@ -1,7 +1,6 @@
 -- Each refusal has a number, and none has 0.
-use Rattle.std.proofs.Common.{arith, ◌≡◌, ℕ, ◌<◌}
+use Rattle.std.proofs.Common.{arith, ◌<◌}
 use Rattle.refusal.specs.declared.Refusal.{Refusal}
-use Rattle.refusal.specs.declared.Refusal.TheVariants as Refusal
 use Rattle.refusal.specs.Refusal.{number_of}
 
 pub above_0 : (r : Refusal) → 0 < number_of r

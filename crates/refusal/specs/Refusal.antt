@@ -1,7 +1,6 @@
 -- Document 01, "Turned down": the number of each refusal.
 use Rattle.std.specs.Prelude.{ℕ, Result, Ok, Err}
 use Rattle.refusal.specs.declared.Refusal.{Refusal}
-use Rattle.refusal.specs.declared.Refusal.TheVariants as Refusal
 
 abbrev pub number_of : Refusal → ℕ
 number_of Refusal.Length = 1

@@ -1,4 +1,4 @@
-use Prim.Native.Nat.{◌-◌, ◌≤◌}
+use Prim.Native.Nat.{◌≤◌}
 use lib.ListN.{length}
 use Rattle.positions.specs.Decides.{Decides}
 use Rattle.fit.specs.Fits.{EachMarked}
@@ -7,6 +7,3 @@ use Rattle.fit.proofs.each_fits.Given as goal
 -- `fit::each_fits` meets its contract.
 abbrev pub invariant-loop-i : goal.invariant-loop-i
 invariant-loop-i l = (l.i ≤ length l.keyed) × Decides l.all (EachMarked l.keyed l.alive l.i)
-
-abbrev pub decreases-loop-i : goal.decreases-loop-i
-decreases-loop-i l = length l.keyed - l.i

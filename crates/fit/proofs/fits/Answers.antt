@@ -1,6 +1,6 @@
 use mathlib.Core.Path.{sym, ◌∙◌}
 use native.Mathlib.Omega.{arith}
-use Rattle.index.specs.Arrays.{lent}
+use Rattle.index.specs.Lent.{contents}
 use Rattle.index.specs.State.{header_of}
 use Rattle.positions.proofs.Decides.{same, decides-false}
 use Rattle.positions.proofs.Slots.{positions-meaning}
@@ -16,10 +16,9 @@ returns-then-room-n c =
 
 pub marks_fit-requires : goal.marks_fit-requires
 marks_fit-requires c =
-    let s = c in
     let g = c.fields_fit.ensures.yes c.if-fields_fit.true in
     let e = c.capacity-room.ensures ∙ in-width _ _ g.bits g.bits-high in
-    let room = enough (header_of s.args.index) ((lent s.args.codes.now s.args.scales.now s.args.keys.now s.args.keyed.now s.args.held.now s.args.alive.now s.args.codes2.now s.args.scales2.now)) s.args.index.n (omega (arith, e, c.if-room-n.false)) in
+    let room = enough (header_of c.args.index) (contents c.args.arrays.now) c.args.index.n (omega (arith, e, c.if-room-n.false)) in
     (room.few, room.keyed, room.alive)
 
 pub returns-then-marks_fit : goal.returns-then-marks_fit
