@@ -15,16 +15,14 @@ slice_bounds-score_prepared-end c = lent_fits (centroids_of _) _ _ c.centroids-c
 
 pub slice_bounds-score_prepared-end-2 : goal.slice_bounds-score_prepared-end-2
 slice_bounds-score_prepared-end-2 c =
-    omega (arith, c.padded_dim-padded.ensures, c.prepare.auto, c.floats-prepared.type_inv, (rotatable-of _ _ 4096 c.requires.can_rotate).room)
+    omega (arith, c.padded_dim-padded.ensures, c.prepare.auto, (rotatable-of _ _ 4096 c.requires.can_rotate).room)
 
 pub returns : goal.returns
 returns c =
-    let floats = c.floats-prepared in
-    let places : length floats.result ≡ 4096 = omega (arith, floats.type_inv) in
     let padded = c.padded_dim-padded.ensures in
     let centroids = c.centroids-centroids.ensures in
     let levels = c.levels-n.ensures in
     let q = c.args.query.now in
     c.score_prepared.ensures ∙
     score-lent (header_of c.args.index) (query_of q) _ _ _ _ (lent (centroids_of _) _ _ centroids (levels ∙ sym (centroids-length _)))
-    (query-lent _ _ q floats.result _ _ (rw places c.requires.can_rotate) c.prepare.ensures _ padded)
+    (query-lent _ _ q _ _ _ c.requires.can_rotate c.prepare.ensures _ padded)
