@@ -13,14 +13,10 @@ use Rattle.index.specs.Call.{call}
 use Rattle.index.specs.Answers.{result_of}
 use Rattle.index.proofs.Calls.{call-misfit, call-answered}
 
--- ---- the first test: r is what `fit::fits` answers
+-- ---- the first test
 
-module _ (x : Index) (a : Arrays) (r : Bool) (e : r ≡ fit x a) where
-  pub misfits : (op : Op) → r ≡ false → result_of x a (refused 13) ≡ call x a op
-  misfits op f = sym (call-misfit x a op (sym e ∙ f))
-
-  pub fits : r ≡ true → fit x a ≡ true
-  fits f = sym e ∙ f
+pub misfits : (x : Index) (a : Arrays) → fit x a ≡ false → (op : Op) → result_of x a (refused 13) ≡ call x a op
+misfits x a e op = sym (call-misfit x a op e)
 
 -- ---- the questions
 

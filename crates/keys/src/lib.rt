@@ -3,101 +3,63 @@
 #![tactic(auto)]
 
 ghost use Rattle.std.specs.Prelude.{◌≡◌};
-ghost use Rattle.index.specs.Arrays.{lent};
+ghost use Rattle.index.specs.Lent.{contents};
+ghost use Rattle.index.specs.Verdict.{verdict};
 ghost use Rattle.index.specs.Step.{key_of, contains, slot_of};
 ghost use Rattle.index.specs.Call.{call};
 ghost use Rattle.index.specs.Answers.{result_of, key_is, asked, held_is};
 
-use index::{Asked, Held, Index, Keyed};
+use index::{Index, Lent};
+use refusal::Refusal;
 
 // The key of a slot; none past the slots in use.
-pub fn key_of(
-    index: Index,
-    codes: &[u8],
-    scales: &[u32],
-    keys: &[u64],
-    keyed: &[bool],
-    held: &[u32],
-    alive: &[u8],
-    codes2: &[u8],
-    scales2: &[u32],
-    slot: usize,
-) -> Keyed
-    ensures { result_of index (lent codes.now scales.now keys.now keyed.now held.now alive.now codes2.now scales2.now) (key_is result)
-        ≡ call index (lent codes.now scales.now keys.now keyed.now held.now alive.now codes2.now scales2.now)
-        (key_of slot) }
+pub fn key_of(index: Index, arrays: &Lent<'_>, slot: usize) -> Result<Option<u64>, Refusal>
+    ensures { let a = contents arrays.now in
+        result_of index a (key_is (verdict result)) ≡ call index a (key_of slot) }
 {
-    if !fit::fits(
-        index, codes, scales, keys, keyed, held, alive, codes2, scales2,
-    ) {
-        return Keyed::Refused(13);
+    fit::check(index, arrays)?;
+    if index.n <= slot {
+        return Ok(None);
     }
-    let n = index.n;
-    if n <= slot {
-        return Keyed::None;
+    if slot_keys::is_keyed(arrays.keyed, slot) {
+        return Ok(Some(slot_keys::key_word(arrays.keys, slot)));
     }
-    if slot_keys::is_keyed(keyed, slot) {
-        return Keyed::Key(slot_keys::key_word(keys, slot));
-    }
-    Keyed::None
+    Ok(None)
 }
 
 // Whether a key has a slot.
-pub fn contains_key(
-    index: Index,
-    codes: &[u8],
-    scales: &[u32],
-    keys: &[u64],
-    keyed: &[bool],
-    held: &[u32],
-    alive: &[u8],
-    codes2: &[u8],
-    scales2: &[u32],
-    key: u64,
-) -> Asked
-    ensures { result_of index (lent codes.now scales.now keys.now keyed.now held.now alive.now codes2.now scales2.now) (asked result)
-        ≡ call index (lent codes.now scales.now keys.now keyed.now held.now alive.now codes2.now scales2.now)
-        (contains key) }
+pub fn contains_key(index: Index, arrays: &Lent<'_>, key: u64) -> Result<bool, Refusal>
+    ensures { let a = contents arrays.now in
+        result_of index a (asked (verdict result)) ≡ call index a (contains key) }
 {
-    if !fit::fits(
-        index, codes, scales, keys, keyed, held, alive, codes2, scales2,
-    ) {
-        return Asked::Refused(13);
+    fit::check(index, arrays)?;
+    if 0 < held::held_count(arrays.keys, arrays.keyed, index.n, key) {
+        return Ok(true);
     }
-    let n = index.n;
-    if 0 < held::held_count(keys, keyed, n, key) {
-        return Asked::Yes;
-    }
-    Asked::No
+    Ok(false)
 }
 
 // The slot that holds a position of a key.
 pub fn slot_at(
     index: Index,
-    codes: &[u8],
-    scales: &[u32],
-    keys: &[u64],
-    keyed: &[bool],
-    held: &[u32],
-    alive: &[u8],
-    codes2: &[u8],
-    scales2: &[u32],
+    arrays: &Lent<'_>,
     key: u64,
     position: usize,
-) -> Held
-    ensures { result_of index (lent codes.now scales.now keys.now keyed.now held.now alive.now codes2.now scales2.now) (held_is result)
-        ≡ call index (lent codes.now scales.now keys.now keyed.now held.now alive.now codes2.now scales2.now)
-        (slot_of key position) }
+) -> Result<Option<usize>, Refusal>
+    ensures { let a = contents arrays.now in
+        result_of index a (held_is (verdict result)) ≡ call index a (slot_of key position) }
 {
-    if !fit::fits(
-        index, codes, scales, keys, keyed, held, alive, codes2, scales2,
-    ) {
-        return Held::Refused(13);
+    fit::check(index, arrays)?; // 13
+    let slot = held::held_slot(
+        arrays.keys,
+        arrays.keyed,
+        arrays.held,
+        index.n,
+        key,
+        position,
+    );
+    if slot < index.n {
+        return Ok(Some(slot));
     }
-    let n = index.n;
-    let slot = held::held_slot(keys, keyed, held, n, key, position);
-    if slot < n {
-        return Held::Slot(slot);
-    }
-    Held::None
+    Ok(None)
 }
