@@ -26,8 +26,8 @@ use Rattle.index.proofs.Determined.{pairs-there}
 use Rattle.fit.proofs.Meaning.{meaning}
 use Rattle.fit.proofs.Rooms.{enough}
 use Rattle.score_slot.proofs.Query.{width-in, query-rotatable}
-use Rattle.hits.specs.declared.Listed.{Listed}
-use Rattle.hits.specs.contracts.Listed.{the_type}
+use Rattle.hits.specs.Hits.{Listed}
+use Rattle.hits.specs.declared.Unlisted.TheVariants.{Nan, Unable}
 use Rattle.hits.specs.Hits.{scored_slots, chosen, shown, list_answer, ready}
 use Rattle.asking.proofs.Cells.{scores, cells, hits-nan}
 
@@ -74,21 +74,21 @@ is-ready x a e q f =
 abbrev pub Other : Listed → Type 0
 Other r = OneOf (1 ∷ 2 ∷ []) (tag_of the_type r)
 
-pub not-other : (m : ℕ) → Other (Listed.Hits m) → ⊥
+pub not-other : (m : ℕ) → Other (Ok m) → ⊥
 not-other m (inl e) = omega (arith, e)
 not-other m (inr e) = omega (arith, e)
 
 -- or by what it is not
-pub is-other : (r : Listed) → ((m : ℕ) → r ≡ Listed.Hits m → ⊥) → Other r
-is-other (Listed.Hits m) h = absurd (h m refl)
-is-other Listed.Nan h = inl refl
-is-other Listed.Unable h = inr refl
+pub is-other : (r : Listed) → ((m : ℕ) → r ≡ Ok m → ⊥) → Other r
+is-other (Ok m) h = absurd (h m refl)
+is-other (Err Nan) h = inl refl
+is-other (Err Unable) h = inr refl
 
 -- one more than the hits that are listed, 0 where none is
 abbrev hits_in : Listed → ℕ
-hits_in (Listed.Hits m) = suc m
-hits_in Listed.Nan = 0
-hits_in Listed.Unable = 0
+hits_in (Ok m) = suc m
+hits_in (Err Nan) = 0
+hits_in (Err Unable) = 0
 
 module _ (score : ℕ → Float) (marks : List ℕ) (n : ℕ) (can : Bool) (k places : ℕ) (yes : can ≡ true) where
   abbrev pub nan : Bool
@@ -96,8 +96,8 @@ module _ (score : ℕ → Float) (marks : List ℕ) (n : ℕ) (can : Bool) (k pl
 
   -- what it answers, by whether a score is NaN
   abbrev pub listed : Bool → Listed
-  listed true = Listed.Nan
-  listed false = Listed.Hits (length (chosen score marks n k))
+  listed true = Err Nan
+  listed false = Ok (length (chosen score marks n k))
 
   module _ (room : length (chosen score marks n k) ≤ places) where
     pub answer-is : (b : Bool) → nan ≡ b → list_answer score marks n can k places ≡ listed b
@@ -106,17 +106,17 @@ module _ (score : ℕ → Float) (marks : List ℕ) (n : ℕ) (can : Bool) (k pl
     answer-is false t = rw (yes, t, le-ltb places (length (chosen score marks n k)) room)
 
     module _ (r : Listed) (is : r ≡ list_answer score marks n can k places) where
-      pub some-hits : (m : ℕ) → r ≡ Listed.Hits m → (nan ≡ false) × (m ≡ length (chosen score marks n k))
+      pub some-hits : (m : ℕ) → r ≡ Ok m → (nan ≡ false) × (m ≡ length (chosen score marks n k))
       some-hits m e = go nan refl
         where
           go : (b : Bool) → nan ≡ b → (b ≡ false) × (m ≡ length (chosen score marks n k))
           go true t = absurd (omega (arith, ap hits_in (sym e ∙ is ∙ answer-is true t)))
           go false t = (refl, omega (arith, ap hits_in (sym e ∙ is ∙ answer-is false t)))
 
-      pub no-hits : Other r → (nan ≡ true) × (r ≡ Listed.Nan)
+      pub no-hits : Other r → (nan ≡ true) × (r ≡ (Err Nan))
       no-hits e = go nan refl
         where
-          go : (b : Bool) → nan ≡ b → (b ≡ true) × (r ≡ Listed.Nan)
+          go : (b : Bool) → nan ≡ b → (b ≡ true) × (r ≡ (Err Nan))
           go true t = (refl, is ∙ answer-is true t)
           go false t = absurd (not-other (length (chosen score marks n k)) (subst Other (is ∙ answer-is false t) e))
 
@@ -124,7 +124,7 @@ module _ (score : ℕ → Float) (marks : List ℕ) (n : ℕ) (can : Bool) (k pl
       module _ (x : Index) (a : Arrays) (op : Op) (answers : result_of x a (unless (when nan 12) (hits (chosen score marks n k))) ≡ call x a op)
           (ns ms : List ℕ) (ss ts : List Float) (f : ms ≡ over (map (λ e. e.0) (shown score marks n k r)) ns)
           (g : ts ≡ over (map (λ e. e.1) (shown score marks n k r)) ss) where
-        pub leaves-hits : (m : ℕ) → r ≡ Listed.Hits m → Leaves x a op found (taken m) ns ms ss ts
+        pub leaves-hits : (m : ℕ) → r ≡ Ok m → Leaves x a op found (taken m) ns ms ss ts
         leaves-hits m e =
             let sound = some-hits m e in
             let there = pairs-there (chosen score marks n k) ns ss m ms ts sound.1 (rw e at f) (rw e at g) in

@@ -1,4 +1,5 @@
 -- What the call answers and writes, by what its tests say.
+use Rattle.std.specs.Prelude.{Ok, Err}
 use mathlib.Core.Path.{◌≡◌, refl, sym, ap, subst, ◌∙◌}
 use mathlib.Core.Bool.{Bool, true, false, cond, ◌&&◌}
 use mathlib.Core.List.{List, [], ◌∷◌, map}
@@ -21,8 +22,8 @@ use Rattle.padding.specs.Rotatable.{rotatable}
 use Rattle.scan.specs.Scan.{takes_part}
 use Rattle.lists.proofs.Tests.{and_left, and_right}
 use Rattle.choose_slots.specs.Slots.{listed, listed_within}
-use Rattle.hits.specs.declared.Listed.{Listed}
-use Rattle.hits.specs.Hits.{chosen, shown, list_answer, ready}
+use Rattle.hits.specs.declared.Unlisted.TheVariants.{Nan, Unable}
+use Rattle.hits.specs.Hits.{Listed, chosen, shown, list_answer, ready}
 use Rattle.hits.specs.Steps.{score_entry, order_entry, any_nan, WritesHits, any_takes_part, count_answer, ListsHits}
 use Rattle.hits.proofs.Entering.{never, none_each, no_nan}
 use Rattle.hits.proofs.Choosing.{picks, chosen-slots, chosen-scores, listed-picks, picks-scores}
@@ -60,7 +61,7 @@ part_none marks n h = rw (keep-none (takes_part marks) (below n) (each-tab (λ i
 
 -- ---- the answer by the count
 
-pub count-some : (m : ℕ) (b : Bool) → 0 < m → Listed.Hits m ≡ count_answer m b
+pub count-some : (m : ℕ) (b : Bool) → 0 < m → Ok m ≡ count_answer m b
 count-some zero b h = absurd (omega arith)
 count-some (suc m) b h = refl
 
@@ -80,14 +81,14 @@ module _ (score : ℕ → Float) (marks : List ℕ) (n k : ℕ) (slots : List �
       (r ≡ list_answer score marks n ok k places)
       × ((next ≡ over (map (λ e. e.0) (shown score marks n k r)) slots) × (after ≡ over (map (λ e. e.1) (shown score marks n k r)) scores))
 
-  pub not-ready : (ok : Bool) → ok ≡ false → Answers ok Listed.Unable slots scores
+  pub not-ready : (ok : Bool) → ok ≡ false → Answers ok (Err Unable) slots scores
   unfolding list_answer over
   not-ready ok e = (rw e refl, (refl, refl))
 
   pub when-ready : (ok : Bool) → ok ≡ true → (r : Listed) (next : List ℕ) (after : List Float) → ListsHits score marks n k slots next scores after r → Answers ok r next after
   when-ready ok e r next after h = subst (λ (b : Bool). Answers b r next after) (sym e) (h.answers, (h.slots-in, h.scores-in))
 
-  pub some_nan : any_nan score marks n ≡ true → ListsHits score marks n k slots slots scores scores Listed.Nan
+  pub some_nan : any_nan score marks n ≡ true → ListsHits score marks n k slots slots scores scores (Err Nan)
   unfolding list_answer any_nan over
   some_nan e = record { answers = rw e refl; slots-in = refl; scores-in = refl }
 
@@ -123,24 +124,24 @@ module _ (score : ℕ → Float) (marks : List ℕ) (n k : ℕ) (slots : List �
 
     -- the answer by the count
     abbrev given : Bool → Listed
-    given true = Listed.Unable
-    given false = Listed.Hits (length (chosen score marks n k))
+    given true = Err Unable
+    given false = Ok (length (chosen score marks n k))
 
     answer-is : list_answer score marks n true k places ≡ given short
     unfolding list_answer any_nan
     answer-is = rw (none, sym (length-map (chosen score marks n k) (λ e. e.0)), chosen-slots score marks n k) (go short)
       where
-        go : (b : Bool) → cond b Listed.Unable (Listed.Hits (length (picks score marks n k))) ≡ given b
+        go : (b : Bool) → cond b (Err Unable) (Ok (length (picks score marks n k))) ≡ given b
         go true = refl
-        go false = ap Listed.Hits (sym (ap length (chosen-slots score marks n k)) ∙ length-map (chosen score marks n k) (λ e. e.0))
+        go false = ap Ok (sym (ap length (chosen-slots score marks n k)) ∙ length-map (chosen score marks n k) (λ e. e.0))
 
     counted : (b : Bool) → short ≡ b → count_answer (length (cond b [] (picks score marks n k))) (any_takes_part marks n) ≡ given b
     unfolding any_takes_part
     counted true t =
         ap (count_answer 0) (lt-ltb 0 (length (keep (takes_part marks) (below n))) (omega (arith, picks-many, ltb-true places (length (picks score marks n k)) t)))
-    counted false t = go (length (picks score marks n k)) picks-many ∙ ap Listed.Hits (sym (ap length (chosen-slots score marks n k)) ∙ length-map (chosen score marks n k) (λ e. e.0))
+    counted false t = go (length (picks score marks n k)) picks-many ∙ ap Ok (sym (ap length (chosen-slots score marks n k)) ∙ length-map (chosen score marks n k) (λ e. e.0))
       where
-        go : (m : ℕ) → m ≡ min (max k 1) (length (keep (takes_part marks) (below n))) → count_answer m (ltb 0 (length (keep (takes_part marks) (below n)))) ≡ Listed.Hits m
+        go : (m : ℕ) → m ≡ min (max k 1) (length (keep (takes_part marks) (below n))) → count_answer m (ltb 0 (length (keep (takes_part marks) (below n)))) ≡ Ok m
         go zero e = ap (count_answer 0) (le-ltb 0 (length (keep (takes_part marks) (below n))) (omega (arith, e)))
         go (suc m) e = refl
 

@@ -1,5 +1,5 @@
 -- Words of the contracts on the way to the list.
-use Rattle.std.specs.Prelude.{◌≡◌, Bool, true, false, not, cond, ◌&&◌, List, map, ℕ, zero, suc, min, ◌<◌, ltb, length, take, drop, get_or, set, Float}
+use Rattle.std.specs.Prelude.{◌≡◌, Bool, true, false, not, cond, ◌&&◌, List, map, ℕ, zero, suc, min, ◌<◌, ltb, length, take, drop, get_or, set, Float, Ok, Err}
 use Rattle.std.proofs.Math.Option.{none, some}
 use Rattle.std.specs.Float.{nan}
 use Rattle.std.specs.Float.Ieee.{is_nan}
@@ -9,16 +9,22 @@ use Rattle.encode.specs.declared.Header.{Header}
 use Rattle.score.specs.Score.{slot_score}
 use Rattle.score.specs.Order.{order_number}
 use Rattle.choose_slots.specs.Slots.{listed_within}
-use Rattle.hits.specs.declared.Listed.{Listed}
-use Rattle.index.specs.State.{stage_at}
+use Rattle.hits.specs.declared.Unlisted.TheVariants.{Nan, Unable}
+use Rattle.index.specs.declared.Index.{Index}
+use Rattle.index.specs.Arrays.{Arrays}
+use Rattle.index.specs.State.{header_of, stage_at}
 use Rattle.lists.specs.Keep.{any, keep}
 use Rattle.scan.specs.Scan.{takes_part}
-use Rattle.hits.specs.Hits.{scored_slots, shown, list_answer}
+use Rattle.hits.specs.Hits.{Listed, scored_slots, shown, list_answer}
 
 -- the score of each slot under a prepared query, by a table of centroids
 unfoldable pub score_prepared : Header → (codes scales codes2 scales2 : List ℕ) → (centroids prepared : List Float) → ℕ → Float
 score_prepared h codes scales codes2 scales2 centroids q i =
     slot_score h.bits centroids q (stage_at h scales codes i) (cond h.residual (some (stage_at h scales2 codes2 i)) none)
+
+-- the same by a record and its arrays
+abbrev pub prepared_score : Index → Arrays → (centroids prepared : List Float) → ℕ → Float
+prepared_score x a centroids prepared = score_prepared (header_of x) a.codes a.scales a.codes2 a.scales2 centroids prepared
 
 module _ (score : ℕ → Float) (marks : List ℕ) where
   -- what the working arrays have at a slot: its score, and its order number; 0 for a slot that takes no part
@@ -62,9 +68,9 @@ any_takes_part marks n = ltb 0 (length (keep (takes_part marks) (below n)))
 
 -- the answer where m hits are written, by whether a slot takes part: if one does, there is a hit, so no hit says that places are too few
 abbrev pub count_answer : (m : ℕ) → (any : Bool) → Listed
-count_answer zero true = Listed.Unable
-count_answer zero false = Listed.Hits 0
-count_answer (suc m) b = Listed.Hits (suc m)
+count_answer zero true = Err Unable
+count_answer zero false = Ok 0
+count_answer (suc m) b = Ok (suc m)
 
 -- What the call promises where it can be made.
 pub record ListsHits (score : ℕ → Float) (marks : List ℕ) (n k : ℕ) (slots next : List ℕ) (scores after : List Float) (r : Listed) : Type 0 where

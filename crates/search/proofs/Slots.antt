@@ -14,7 +14,8 @@ use Rattle.index.specs.Step.{Query, Hit, Answer, hits, when, unless, live_from, 
 use Rattle.index.specs.Step as Step
 use Rattle.index.specs.Call.{call}
 use Rattle.index.specs.Answers.{result_of, found}
-use Rattle.hits.specs.declared.Listed.{Listed}
+use Rattle.hits.specs.Hits.{Listed}
+use Rattle.hits.specs.declared.Unlisted.TheVariants.{Nan, Unable}
 use Rattle.hits.specs.Hits.{ready, shown, list_answer}
 use Rattle.asking.specs.Faults.{search_fault}
 use Rattle.asking.proofs.Cells.{scores, by-slot}
@@ -53,7 +54,7 @@ module _ (x : Index) (a : Arrays) (q : Query) (k places : ℕ) where
           (λ j. result_of x a (unless (when (live_nan x a q) 12) (hits (sym (by-slot (header_of x) a (live_chosen x a q k)) j))))
           ∙ search-listed x a q k places (Step.search q k places) by_slots is none
 
-      pub slots-listed : (m : ℕ) → r ≡ Listed.Hits m → Leaves x a (Step.search q k places) found (taken m) ns ms ss ts
+      pub slots-listed : (m : ℕ) → r ≡ Ok m → Leaves x a (Step.search q k places) found (taken m) ns ms ss ts
       slots-listed m o =
           leaves-hits (scores (header_of x) a q) a.alive x.n can k places yes (chosen-places x a q k places none) r g
           x a (Step.search q k places) answers ns ms ss ts h i m o

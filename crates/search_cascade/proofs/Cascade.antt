@@ -34,7 +34,8 @@ use Rattle.nearest.specs.Nearest.{near_marks}
 use Rattle.nearest.specs.Nearest as Nearest
 use Rattle.score_slot.proofs.Query.{query-rotatable}
 use Rattle.scan.specs.Scan.{takes_part}
-use Rattle.hits.specs.declared.Listed.{Listed}
+use Rattle.hits.specs.Hits.{Listed}
+use Rattle.hits.specs.declared.Unlisted.TheVariants.{Nan, Unable}
 use Rattle.hits.specs.Hits.{scored_slots, chosen, ready, shown, list_answer}
 use Rattle.asking.specs.Faults.{places_fault}
 use Rattle.asking.proofs.Cells.{scores, cells, hits-listed}
@@ -238,7 +239,7 @@ module _ (x : Index) (a : Arrays) (q : Query) (k r places : ℕ) where
         module _ (l : Listed) (ms : List ℕ) (ts : List Float) (g : l ≡ list_answer (scores (header_of x) a q) marks x.n can k places)
             (h : ms ≡ over (map (λ e. e.0) (shown (scores (header_of x) a q) marks x.n k l)) ns)
             (i : ts ≡ over (map (λ e. e.1) (shown (scores (header_of x) a q) marks x.n k l)) ss) where
-          pub cascade-listed : (m : ℕ) → l ≡ Listed.Hits m → Leaves x a (Step.search_cascade q k r places) found (taken m) ns ms ss ts
+          pub cascade-listed : (m : ℕ) → l ≡ Ok m → Leaves x a (Step.search_cascade q k r places) found (taken m) ns ms ss ts
           cascade-listed m o =
               leaves-hits (scores (header_of x) a q) marks x.n can k places yes listed-fits l g
               x a (Step.search_cascade q k r places) answers ns ms ss ts h i m o

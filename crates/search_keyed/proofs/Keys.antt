@@ -24,7 +24,8 @@ use Rattle.index.specs.Call.{call}
 use Rattle.index.specs.Answers.{result_of, found_keyed}
 use Rattle.index.proofs.Determined.{pairs-there}
 use Rattle.held.proofs.Value.{mark-part}
-use Rattle.hits.specs.declared.Listed.{Listed}
+use Rattle.hits.specs.Hits.{Listed}
+use Rattle.hits.specs.declared.Unlisted.TheVariants.{Nan, Unable}
 use Rattle.hits.specs.Hits.{ready, shown, list_answer}
 use Rattle.distinct.specs.Distinct.{hit_at, keyed_list, keyed_shown}
 use Rattle.search_keyed.specs.Named.{listed_count, keyed_of, named_answer}
@@ -58,18 +59,18 @@ module _ (keys : List ℕ) (keyed : List Bool) (us : List ℕ) (ws : List Float)
 
   pub none_named : (r : Listed) → Other r → (ns : List ℕ) (ss : List Float) → Names r (turned_down 12) ns ns ss ss
   unfolding over
-  none_named (Listed.Hits m) o ns ss = absurd (not-other m o)
-  none_named Listed.Nan o ns ss = (refl, (refl, refl))
-  none_named Listed.Unable o ns ss = (refl, (refl, refl))
+  none_named (Ok m) o ns ss = absurd (not-other m o)
+  none_named (Err Nan) o ns ss = (refl, (refl, refl))
+  none_named (Err Unable) o ns ss = (refl, (refl, refl))
 
   -- by the first m places
   abbrev first : ℕ → List (ℕ × Float)
   first m = keyed_shown keys keyed (take (m - 0) us) (take (m - 0) ws) places
 
-  same : (r : Listed) (m : ℕ) → r ≡ Listed.Hits m → first m ≡ keyed_of keys keyed us ws places r
+  same : (r : Listed) (m : ℕ) → r ≡ Ok m → first m ≡ keyed_of keys keyed us ws places r
   same r m e = ap (λ (z : ℕ). keyed_shown keys keyed (take z us) (take z ws) places) (sub-zero m) ∙ ap (keyed_of keys keyed us ws places) (sym e)
 
-  pub named-hits : (r : Listed) (m : ℕ) → r ≡ Listed.Hits m → (n : ℕ) (ns ms : List ℕ) (ss ls : List Float) →
+  pub named-hits : (r : Listed) (m : ℕ) → r ≡ Ok m → (n : ℕ) (ns ms : List ℕ) (ss ls : List Float) →
       n ≡ length (first m) → ms ≡ over (map (λ y. y.0) (first m)) ns → ls ≡ over (map (λ y. y.1) (first m)) ss → Names r (taken n) ns ms ss ls
   named-hits r m e n ns ms ss ls i j l = (
     ap taken (i ∙ ap length (same r m e)) ∙ ap (λ (f : Listed). named_answer f (keyed_of keys keyed us ws places r)) (sym e),

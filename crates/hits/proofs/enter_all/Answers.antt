@@ -16,15 +16,13 @@ slice_bounds-enter_slots-end c = lent_fits (centroids_of _) _ _ c.centroids-cent
 
 pub slice_bounds-enter_slots-end-2 : goal.slice_bounds-enter_slots-end-2
 slice_bounds-enter_slots-end-2 c =
-    omega (arith, c.padded_dim-padded.ensures, c.prepare.auto, c.query_floats-prepared.type_inv, (rotatable-of _ _ 4096 c.requires.can_rotate).room)
+    omega (arith, c.padded_dim-padded.ensures, c.prepare.auto, (rotatable-of _ _ 4096 c.requires.can_rotate).room)
 
 pub returns : goal.returns
 returns c =
-    let floats = c.query_floats-prepared in
-    let places : length floats.result ≡ 4096 = omega (arith, floats.type_inv) in
     let q = c.args.query.now in
     let entered = c.enter_slots in
-    entered-prepared (header_of c.args.index) c.args.codes.now c.args.scales.now c.args.codes2.now c.args.scales2.now (query_of q) _ _
+    entered-prepared (header_of c.args.index) c.args.arrays.now.codes.now c.args.arrays.now.scales.now c.args.arrays.now.codes2.now c.args.arrays.now.scales2.now (query_of q) _ _
     (lent (centroids_of _) _ _ c.centroids-centroids.ensures (c.levels-levels.ensures ∙ sym (centroids-length _)))
-    (query-lent _ _ q floats.result _ _ (rw places c.requires.can_rotate) c.prepare.ensures _ c.padded_dim-padded.ensures)
+    (query-lent _ _ q _ _ _ c.requires.can_rotate c.prepare.ensures _ c.padded_dim-padded.ensures)
     _ _ _ _ _ _ _ entered.ensures

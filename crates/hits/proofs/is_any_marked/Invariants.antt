@@ -7,6 +7,3 @@ use Rattle.hits.proofs.is_any_marked.Given as goal
 -- `hits::is_any_marked` meets its contract.
 abbrev pub invariant-loop-i : goal.invariant-loop-i
 invariant-loop-i l = (l.i ≤ l.n) × ((j : ℕ) → j < l.i → takes_part l.marks j ≡ false)
-
-abbrev pub decreases-loop-i : goal.decreases-loop-i
-decreases-loop-i l = l.n - l.i

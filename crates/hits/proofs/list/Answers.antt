@@ -9,7 +9,7 @@ use Rattle.hits.proofs.list.Goals as goal
 pub returns-then-not-is_ready : goal.returns-then-not-is_ready
 returns-then-not-is_ready c =
     let m =
-    not-ready (score_at (header_of c.args.index) c.args.codes.now c.args.scales.now c.args.codes2.now c.args.scales2.now (query_of c.args.query.now)) c.args.marks.now
+    not-ready (score_at (header_of c.args.index) c.args.arrays.now.codes.now c.args.arrays.now.scales.now c.args.arrays.now.codes2.now c.args.arrays.now.scales2.now (query_of c.args.query.now)) c.args.marks.now
     c.args.index.n c.args.k c.args.slots.now c.args.scores.now _ (sym c.is_ready.ensures ∙ c.if-not-is_ready.true) in
     record { answer = m.0; slots_after = m.1.0; scores_after = m.1.1 }
 
@@ -17,4 +17,4 @@ pub list_in-requires-2-clause-room : goal.list_in-requires-2-clause-room
 list_in-requires-2-clause-room c =
     let ok = sym c.is_ready.ensures ∙ c.if-not-is_ready.false in
     let few = ready-few _ _ _ _ ok in
-    (omega (arith, few, c.slot_floats-all.type_inv), omega (arith, few, c.slot_words-orders.type_inv))
+    (few, omega arith)

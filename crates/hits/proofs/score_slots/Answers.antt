@@ -13,7 +13,7 @@ returns-then-index c =
     c.bytes_per_vector-size.ensures ∙ at_width_lem _ (record { some = omega (arith, c.requires.0); most = omega (arith, c.requires.1) })
     ∙ ap (bytes_per_vector c.args.index.bits) c.padded_dim.ensures in
     let a = c.args in
-    two-stages (header_of a.index) a.codes.now a.scales.now a.codes2.now a.scales2.now a.centroids.now a.prepared.now _
+    two-stages (header_of a.index) a.arrays.now.codes.now a.arrays.now.scales.now a.arrays.now.codes2.now a.arrays.now.scales2.now a.centroids.now a.prepared.now _
     size_is a.marks.now a.n a.all.now _ c.requires.2 c.stage_scores.ensures _ c.if-index.true c.stage_scores-then-index.ensures
 
 pub returns-else-index : goal.returns-else-index
@@ -22,5 +22,5 @@ returns-else-index c =
     c.bytes_per_vector-size.ensures ∙ at_width_lem _ (record { some = omega (arith, c.requires.0); most = omega (arith, c.requires.1) })
     ∙ ap (bytes_per_vector c.args.index.bits) c.padded_dim.ensures in
     let a = c.args in
-    one-stage (header_of a.index) a.codes.now a.scales.now a.codes2.now a.scales2.now a.centroids.now a.prepared.now _
+    one-stage (header_of a.index) a.arrays.now.codes.now a.arrays.now.scales.now a.arrays.now.codes2.now a.arrays.now.scales2.now a.centroids.now a.prepared.now _
     size_is a.marks.now a.n a.all.now _ c.requires.2 c.stage_scores.ensures c.if-index.false
