@@ -7,7 +7,7 @@ use borrow.Author.Tests.{ne_eqb}
 use Rattle.codes.specs.Writing.{at_width}
 use Rattle.encode.specs.declared.Header.{Header}
 use Rattle.index.specs.declared.Index.{Index}
-use Rattle.index.specs.Verdict.{Verdict, taken, turned_down}
+use Rattle.index.specs.Verdict.{taken, turned_down}
 use Rattle.index.specs.Arrays.{Arrays}
 use Rattle.index.specs.State.{header_of, with_bits, record_with, capacity, record_of}
 use Rattle.index.specs.Fit.{between}
