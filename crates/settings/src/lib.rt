@@ -2,74 +2,46 @@
 #![tactic(auto)]
 
 ghost use Rattle.std.specs.Prelude.{◌≡◌};
-ghost use Rattle.index.specs.Arrays.{lent};
+ghost use Rattle.index.specs.Lent.{contents};
 ghost use Rattle.index.specs.Step.{set_bits, enable};
 ghost use Rattle.index.specs.Call.{call};
+ghost use Rattle.index.specs.Verdict.{verdict};
 ghost use Rattle.index.specs.Answers.{made};
 
-use index::{Index, Made};
+use index::{Index, Lent};
+use refusal::Refusal;
 
 // Sets the width of an index of no slots: 13, 5, 6, 7. The cascade ends.
-pub fn set_bits(
-    index: Index,
-    codes: &[u8],
-    scales: &[u32],
-    keys: &[u64],
-    keyed: &[bool],
-    held: &[u32],
-    alive: &[u8],
-    codes2: &[u8],
-    scales2: &[u32],
-    bits: u8,
-) -> Made
-    ensures { let a = lent codes.now scales.now keys.now keyed.now held.now alive.now codes2.now scales2.now in
-        made index result a ≡ call index a (set_bits bits) }
+pub fn set_bits(index: Index, arrays: &Lent<'_>, bits: u8) -> Result<Index, Refusal>
+    ensures { let a = contents arrays.now in made index (verdict result) a ≡ call index a (set_bits bits) }
 {
-    if !fit::fits(
-        index, codes, scales, keys, keyed, held, alive, codes2, scales2,
-    ) {
-        return Made::Refused(13);
-    }
-    let n = index.n;
+    fit::check(index, arrays)?;
     if !((4 <= bits) & (bits <= 6)) {
-        return Made::Refused(5);
+        return Err(Refusal::Width);
     }
-    if 0 < n {
-        return Made::Refused(6);
+    if 0 < index.n {
+        return Err(Refusal::SlotsInUse);
     }
     if index.residual & (bits != 4) {
-        return Made::Refused(7);
+        return Err(Refusal::ResidualWidth);
     }
-    let mut set = index;
-    set.bits = bits;
-    set.cascade = false;
-    Made::Index(set)
+    Ok(Index {
+        bits,
+        cascade: false,
+        ..index
+    })
 }
 
 // Lets the index answer cascade searches: 13, 11.
-pub fn enable_cascade(
-    index: Index,
-    codes: &[u8],
-    scales: &[u32],
-    keys: &[u64],
-    keyed: &[bool],
-    held: &[u32],
-    alive: &[u8],
-    codes2: &[u8],
-    scales2: &[u32],
-) -> Made
-    ensures { let a = lent codes.now scales.now keys.now keyed.now held.now alive.now codes2.now scales2.now in
-        made index result a ≡ call index a enable }
+pub fn enable_cascade(index: Index, arrays: &Lent<'_>) -> Result<Index, Refusal>
+    ensures { let a = contents arrays.now in made index (verdict result) a ≡ call index a enable }
 {
-    if !fit::fits(
-        index, codes, scales, keys, keyed, held, alive, codes2, scales2,
-    ) {
-        return Made::Refused(13);
-    }
+    fit::check(index, arrays)?;
     if index.bits != 4 {
-        return Made::Refused(11);
+        return Err(Refusal::NoCascade);
     }
-    let mut enabled = index;
-    enabled.cascade = true;
-    Made::Index(enabled)
+    Ok(Index {
+        cascade: true,
+        ..index
+    })
 }

@@ -1,14 +1,16 @@
-use Rattle.std.proofs.Common.{◌∙◌}
-use mathlib.Core.Path.{sym}
+use Rattle.std.proofs.Common.{rules, ◌≡◌, Err, sym}
 use Rattle.index.proofs.Calls.{call-misfit}
 use Rattle.settings.proofs.Setting.{enable-11, enabled}
 use Rattle.settings.proofs.enable_cascade.Goals as goal
 
-pub returns-then-not-fits : goal.returns-then-not-fits
-returns-then-not-fits c = sym (call-misfit _ _ _ (sym c.fits.ensures ∙ c.if-not-fits.true))
+pub returns-in_err-check : goal.returns-in_err-check
+returns-in_err-check c =
+    let k : c.from_residual.result ≡ Err c.in_err-check.field-0.0 = search rules in
+    let misfit = c.in_err-check.ensures in
+    rw (k, misfit.1) (sym (call-misfit _ _ _ misfit.0))
 
 pub returns-then-index-ne4 : goal.returns-then-index-ne4
-returns-then-index-ne4 c = sym (enable-11 _ _ (sym c.fits.ensures ∙ c.if-not-fits.false) c.if-index-ne4.true)
+returns-then-index-ne4 c = sym (enable-11 _ _ c.in_ok-check.ensures c.if-index-ne4.true)
 
 pub returns : goal.returns
-returns c = sym (enabled _ _ (sym c.fits.ensures ∙ c.if-not-fits.false) c.if-index-ne4.false)
+returns c = sym (enabled _ _ c.in_ok-check.ensures c.if-index-ne4.false)

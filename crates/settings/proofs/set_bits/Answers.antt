@@ -1,31 +1,22 @@
-use Rattle.std.proofs.Common.{◌∙◌}
-use mathlib.Core.Path.{sym}
-use native.Mathlib.Omega.{arith}
+use Rattle.std.proofs.Common.{rules, ◌≡◌, Err, arith, sym}
 use Rattle.index.proofs.Calls.{call-misfit}
 use Rattle.settings.proofs.Setting.{width-5, width-6, width-7, width-set}
 use Rattle.settings.proofs.set_bits.Goals as goal
 
-pub returns-then-not-fits : goal.returns-then-not-fits
-returns-then-not-fits c = sym (call-misfit _ _ _ (sym c.fits.ensures ∙ c.if-not-fits.true))
+pub returns-in_err-check : goal.returns-in_err-check
+returns-in_err-check c =
+    let k : c.from_residual.result ≡ Err c.in_err-check.field-0.0 = search rules in
+    let misfit = c.in_err-check.ensures in
+    rw (k, misfit.1) (sym (call-misfit _ _ _ misfit.0))
 
 pub returns-then-not-bits : goal.returns-then-not-bits
-returns-then-not-bits c =
-    let fits = sym c.fits.ensures ∙ c.if-not-fits.false in
-    sym (width-5 _ _ fits _ c.if-not-bits.true)
+returns-then-not-bits c = sym (width-5 _ _ c.in_ok-check.ensures _ c.if-not-bits.true)
 
-pub returns-then-n-gt0 : goal.returns-then-n-gt0
-returns-then-n-gt0 c =
-    let fits = sym c.fits.ensures ∙ c.if-not-fits.false in
-    sym (width-6 _ _ fits _ c.if-not-bits.false c.if-n-gt0.true)
+pub returns-then-index-gt0 : goal.returns-then-index-gt0
+returns-then-index-gt0 c = sym (width-6 _ _ c.in_ok-check.ensures _ c.if-not-bits.false c.if-index-gt0.true)
 
 pub returns-then-index-bits : goal.returns-then-index-bits
-returns-then-index-bits c =
-    let fits = sym c.fits.ensures ∙ c.if-not-fits.false in
-    let width = c.if-not-bits.false in
-    sym (width-7 _ _ fits _ width (omega (arith, c.if-n-gt0.false)) c.if-index-bits.true)
+returns-then-index-bits c = sym (width-7 _ _ c.in_ok-check.ensures _ c.if-not-bits.false (omega arith) c.if-index-bits.true)
 
 pub returns : goal.returns
-returns c =
-    let fits = sym c.fits.ensures ∙ c.if-not-fits.false in
-    let width = c.if-not-bits.false in
-    sym (width-set _ _ fits _ width (omega (arith, c.if-n-gt0.false)) c.if-index-bits.false)
+returns c = sym (width-set _ _ c.in_ok-check.ensures _ c.if-not-bits.false (omega arith) c.if-index-bits.false)
