@@ -1,14 +1,12 @@
 -- What a search answers: its tests in their order, and the list of hits in the lent places.
+use Rattle.std.specs.Prelude.{Ok, Err}
 use mathlib.Core.Path.{◌≡◌, refl, sym, ap, subst, ◌∙◌}
 use mathlib.Core.Bool.{Bool, true, false}
-use mathlib.Core.Logic.{inl, inr}
 use mathlib.Core.List.{List, [], ◌∷◌, ◌++◌, map, append-nil}
 use Prim.Native.Nat.{ℕ, zero, suc, ◌≤◌}
 use native.Mathlib.Omega.{arith}
 use lib.ListN.{length}
 use lib.Ieee.{Float, is_nan}
-use types.Run.{OneOf}
-use denote.Enum.Declared.{tag_of}
 use borrow.Author.Tests.{le-leb, le-ltb}
 use Rattle.lists.specs.Lists.{over}
 use Rattle.encode.specs.declared.Header.{Header}
@@ -26,9 +24,8 @@ use Rattle.index.proofs.Determined.{pairs-there}
 use Rattle.fit.proofs.Meaning.{meaning}
 use Rattle.fit.proofs.Rooms.{enough}
 use Rattle.score_slot.proofs.Query.{width-in, query-rotatable}
-use Rattle.hits.specs.Hits.{Listed}
-use Rattle.hits.specs.declared.Unlisted.TheVariants.{Nan, Unable}
-use Rattle.hits.specs.Hits.{scored_slots, chosen, shown, list_answer, ready}
+use Rattle.hits.specs.declared.Unlisted.TheVariants.{Nan}
+use Rattle.hits.specs.Hits.{Listed, scored_slots, chosen, shown, list_answer, ready}
 use Rattle.asking.proofs.Cells.{scores, cells, hits-nan}
 
 -- what a search leaves: its answer by `tell`, which is `found` or `found_keyed`, and the later places of both slices
@@ -70,25 +67,15 @@ is-ready x a e q f =
 
 -- ---- and is what the call leaves
 
--- one of the other two answers than hits, as a match tells it
+-- an answer that is no hits
 abbrev pub Other : Listed → Type 0
-Other r = OneOf (1 ∷ 2 ∷ []) (tag_of the_type r)
-
-pub not-other : (m : ℕ) → Other (Ok m) → ⊥
-not-other m (inl e) = omega (arith, e)
-not-other m (inr e) = omega (arith, e)
-
--- or by what it is not
-pub is-other : (r : Listed) → ((m : ℕ) → r ≡ Ok m → ⊥) → Other r
-is-other (Ok m) h = absurd (h m refl)
-is-other (Err Nan) h = inl refl
-is-other (Err Unable) h = inr refl
+Other (Ok m) = ⊥
+Other (Err u) = Unit
 
 -- one more than the hits that are listed, 0 where none is
 abbrev hits_in : Listed → ℕ
 hits_in (Ok m) = suc m
-hits_in (Err Nan) = 0
-hits_in (Err Unable) = 0
+hits_in (Err u) = 0
 
 module _ (score : ℕ → Float) (marks : List ℕ) (n : ℕ) (can : Bool) (k places : ℕ) (yes : can ≡ true) where
   abbrev pub nan : Bool
@@ -118,7 +105,7 @@ module _ (score : ℕ → Float) (marks : List ℕ) (n : ℕ) (can : Bool) (k pl
         where
           go : (b : Bool) → nan ≡ b → (b ≡ true) × (r ≡ (Err Nan))
           go true t = (refl, is ∙ answer-is true t)
-          go false t = absurd (not-other (length (chosen score marks n k)) (subst Other (is ∙ answer-is false t) e))
+          go false t = absurd (subst Other (is ∙ answer-is false t) e)
 
       -- of a call that answers this list: what it leaves after `hits::list` into its own places
       module _ (x : Index) (a : Arrays) (op : Op) (answers : result_of x a (unless (when nan 12) (hits (chosen score marks n k))) ≡ call x a op)
