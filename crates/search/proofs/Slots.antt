@@ -14,9 +14,8 @@ use Rattle.index.specs.Step.{Query, Hit, Answer, hits, when, unless, live_from, 
 use Rattle.index.specs.Step as Step
 use Rattle.index.specs.Call.{call}
 use Rattle.index.specs.Answers.{result_of, found}
-use Rattle.hits.specs.Hits.{Listed}
-use Rattle.hits.specs.declared.Unlisted.TheVariants.{Nan, Unable}
-use Rattle.hits.specs.Hits.{ready, shown, list_answer}
+use Rattle.std.specs.Prelude.{Ok}
+use Rattle.hits.specs.Hits.{Listed, ready, shown, list_answer}
 use Rattle.asking.specs.Faults.{search_fault}
 use Rattle.asking.proofs.Cells.{scores, by-slot}
 use Rattle.asking.proofs.Answers.{Leaves, is-ready, Other, leaves-hits, leaves_none}

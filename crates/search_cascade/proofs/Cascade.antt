@@ -34,9 +34,8 @@ use Rattle.nearest.specs.Nearest.{near_marks}
 use Rattle.nearest.specs.Nearest as Nearest
 use Rattle.score_slot.proofs.Query.{query-rotatable}
 use Rattle.scan.specs.Scan.{takes_part}
-use Rattle.hits.specs.Hits.{Listed}
-use Rattle.hits.specs.declared.Unlisted.TheVariants.{Nan, Unable}
-use Rattle.hits.specs.Hits.{scored_slots, chosen, ready, shown, list_answer}
+use Rattle.hits.specs.Hits.{Listed, scored_slots, chosen, ready, shown, list_answer}
+use Rattle.std.specs.Prelude.{Ok}
 use Rattle.asking.specs.Faults.{places_fault}
 use Rattle.asking.proofs.Cells.{scores, cells, hits-listed}
 use Rattle.asking.proofs.Live.{live-length}

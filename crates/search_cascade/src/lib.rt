@@ -2,15 +2,17 @@
 #![tactic(auto)]
 
 ghost use Rattle.std.specs.Prelude.{◌≡◌, min, length};
-ghost use Rattle.index.specs.Arrays.{lent};
+ghost use Rattle.refusal.specs.Refusal.{fault_of};
+ghost use Rattle.index.specs.Lent.{contents};
+ghost use Rattle.index.specs.Verdict.{verdict};
 ghost use Rattle.index.specs.Step as Step;
 ghost use Rattle.index.specs.Step.{query_of};
 ghost use Rattle.index.specs.Call.{call};
 ghost use Rattle.index.specs.Answers.{result_of, hit_count, found, LaterKept};
 ghost use Rattle.search_cascade.specs.Cascade.{enabled, cascade_fault};
 
-use hits::Listed;
-use index::{Found, Index};
+use index::{Index, Lent};
+use refusal::Refusal;
 
 // ---- the tests
 
@@ -18,41 +20,25 @@ use index::{Found, Index};
 fn is_enabled(index: Index) -> bool
     ensures { result ≡ enabled index }
 {
-    if index.cascade {
-        return index.bits == 4;
-    }
-    false
+    index.cascade && index.bits == 4
 }
 
-// The refusal of a cascade before any score: 13 of the index, 13 of the places, 11, 1, 2, 3; 0 for none.
-fn cascade_fault(
+// The refusal of a cascade before any score: 13 of the index, 13 of the places, 11, 1, 2, 3.
+fn check(
     index: Index,
-    codes: &[u8],
-    scales: &[u32],
-    keys: &[u64],
-    keyed: &[bool],
-    held: &[u32],
-    alive: &[u8],
-    codes2: &[u8],
-    scales2: &[u32],
+    arrays: &Lent<'_>,
     query: &[f32],
     k: usize,
     slots: usize,
     scores: usize,
-) -> u8
-    ensures { result ≡ cascade_fault index (lent codes.now scales.now keys.now keyed.now held.now alive.now codes2.now scales2.now)
-        (query_of query.now) k (min slots scores) }
+) -> Result<(), Refusal>
+    ensures { fault_of result ≡ cascade_fault index (contents arrays.now) (query_of query.now) k (min slots scores) }
 {
-    let fault = asking::places_fault(
-        index, codes, scales, keys, keyed, held, alive, codes2, scales2, k, slots, scores,
-    );
-    if fault != 0 {
-        return fault;
-    }
+    asking::check_places(index, arrays, k, slots, scores)?;
     if !is_enabled(index) {
-        return 11;
+        return Err(Refusal::NoCascade);
     }
-    vectors::vector_fault(index.dim, index.working_dim, query)
+    vectors::check(index.dim, index.working_dim, query)
 }
 
 // ---- the candidates
@@ -61,24 +47,7 @@ fn cascade_fault(
 fn candidates_wanted(k: usize, r: usize, live: usize) -> usize
     ensures { result ≡ Step.wide k r live }
 {
-    if live <= r {
-        return live;
-    }
-    if live <= k {
-        return live;
-    }
-    if r < k {
-        return k;
-    }
-    if r == 0 {
-        return 1;
-    }
-    r
-}
-
-// A mark for each of 65,536 slots. The contents don't matter.
-fn no_marks() -> [u8; 65536] {
-    [0; 65536]
+    r.max(k.min(live).max(1)).min(live)
 }
 
 // ---- the call
@@ -87,52 +56,27 @@ fn no_marks() -> [u8; 65536] {
 // Refused by 13, 11, 1, 2, 3 and 12 in this order, 12 over the candidates only.
 pub fn search_cascade(
     index: Index,
-    codes: &[u8],
-    scales: &[u32],
-    keys: &[u64],
-    keyed: &[bool],
-    held: &[u32],
-    alive: &[u8],
-    codes2: &[u8],
-    scales2: &[u32],
+    arrays: &Lent<'_>,
     query: &[f32],
     k: usize,
     r: usize,
     slots: &mut [u32],
     scores: &mut [f32],
-) -> Found
-    ensures answers { result_of index (lent codes.now scales.now keys.now keyed.now held.now alive.now codes2.now scales2.now)
-        (found result slots.new scores.new)
-        ≡ call index (lent codes.now scales.now keys.now keyed.now held.now alive.now codes2.now scales2.now)
-        (Step.search_cascade (query_of query.now) k r (min (length slots.old) (length scores.old))) }
-    ensures later_kept { LaterKept (hit_count result) slots.old slots.new × LaterKept (hit_count result) scores.old scores.new }
+) -> Result<usize, Refusal>
+    ensures answers { let a = contents arrays.now in
+        result_of index a (found (verdict result) slots.new scores.new)
+        ≡ call index a (Step.search_cascade (query_of query.now) k r (min (length slots.old) (length scores.old))) }
+    ensures later_kept { LaterKept (hit_count (verdict result)) slots.old slots.new
+        × LaterKept (hit_count (verdict result)) scores.old scores.new }
 {
-    let fault = cascade_fault(
-        index,
-        codes,
-        scales,
-        keys,
-        keyed,
-        held,
-        alive,
-        codes2,
-        scales2,
-        query,
-        k,
-        slots.len(),
-        scores.len(),
-    );
-    if fault != 0 {
-        return Found::Refused(fault);
-    }
-    let mut marks = no_marks();
+    check(index, arrays, query, k, slots.len(), scores.len())?;
+    // A mark for each of 65,536 slots. The contents don't matter.
+    let mut marks = [0u8; 65536];
     let many = candidates_wanted(k, r, index.live);
-    nearest::mark_nearest(index, codes, alive, query, many, &mut marks);
-    let Listed::Hits(m) = hits::list(
-        index, codes, scales, codes2, scales2, &marks, query, k, slots, scores,
-    ) else {
+    nearest::mark_nearest(index, arrays.codes, arrays.alive, query, many, &mut marks);
+    let Ok(m) = hits::list(index, arrays, &marks, query, k, slots, scores) else {
         // After these tests it can be made: a score is NaN.
-        return Found::Refused(12);
+        return Err(Refusal::ScoreNan);
     };
-    Found::Hits(m)
+    Ok(m)
 }

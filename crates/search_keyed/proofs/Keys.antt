@@ -24,14 +24,13 @@ use Rattle.index.specs.Call.{call}
 use Rattle.index.specs.Answers.{result_of, found_keyed}
 use Rattle.index.proofs.Determined.{pairs-there}
 use Rattle.held.proofs.Value.{mark-part}
-use Rattle.hits.specs.Hits.{Listed}
-use Rattle.hits.specs.declared.Unlisted.TheVariants.{Nan, Unable}
-use Rattle.hits.specs.Hits.{ready, shown, list_answer}
+use Rattle.std.specs.Prelude.{Ok, Err}
+use Rattle.hits.specs.Hits.{Listed, ready, shown, list_answer}
 use Rattle.distinct.specs.Distinct.{hit_at, keyed_list, keyed_shown}
 use Rattle.search_keyed.specs.Named.{listed_count, keyed_of, named_answer}
 use Rattle.asking.specs.Faults.{search_fault}
 use Rattle.asking.proofs.Cells.{scores, hit, chosen-low}
-use Rattle.asking.proofs.Answers.{Leaves, is-ready, Other, not-other, listed, answer-is}
+use Rattle.asking.proofs.Answers.{Leaves, is-ready, Other, listed, answer-is}
 use Rattle.asking.proofs.Searched.{live_nan, live_chosen, shown_by, searched-fits, searched-query, chosen-length, chosen-places, chosen-few, search-refused, search-listed}
 
 abbrev by_keys : List Hit → Answer
@@ -59,9 +58,8 @@ module _ (keys : List ℕ) (keyed : List Bool) (us : List ℕ) (ws : List Float)
 
   pub none_named : (r : Listed) → Other r → (ns : List ℕ) (ss : List Float) → Names r (turned_down 12) ns ns ss ss
   unfolding over
-  none_named (Ok m) o ns ss = absurd (not-other m o)
-  none_named (Err Nan) o ns ss = (refl, (refl, refl))
-  none_named (Err Unable) o ns ss = (refl, (refl, refl))
+  none_named (Ok m) o ns ss = absurd o
+  none_named (Err u) o ns ss = (refl, (refl, refl))
 
   -- by the first m places
   abbrev first : ℕ → List (ℕ × Float)

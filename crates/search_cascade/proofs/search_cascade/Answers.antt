@@ -1,29 +1,30 @@
-use native.Mathlib.Omega.{arith}
-use mathlib.Core.Path.{◌≡◌}
-use lib.ListN.{length}
+use Rattle.std.proofs.Common.{rules, arith, refl, ◌≡◌, ℕ, Err}
+use Rattle.std.proofs.Math.ListN.{replicate}
+use Rattle.std.proofs.lemmas.List.{length-replicate}
+use Rattle.refusal.proofs.Numbers.{above_0}
 use Rattle.asking.proofs.Answers.{is-other}
 use Rattle.search_cascade.proofs.Cascade.{cascade-refused, cascade-listed, cascade-nan}
 use Rattle.search_cascade.proofs.search_cascade.Goals as goal
 
-pub returns-then-fault-ne0 : goal.returns-then-fault-ne0
-returns-then-fault-ne0 c =
-    let m = cascade-refused _ _ _ _ _ _ _ c.cascade_fault-fault.ensures c.args.slots.now c.args.scores.now c.if-fault-ne0.true in
-    record { answers = m.0; later_kept = m.1 }
+pub returns-in_err-check : goal.returns-in_err-check
+returns-in_err-check c =
+    let r = c.in_err-check.field-0.0 in
+    let k : c.from_residual.result ≡ Err r = search rules in
+    let m = cascade-refused _ _ _ _ _ _ _ c.in_err-check.ensures c.args.slots.now c.args.scores.now (λ z. omega (arith, above_0 r, z)) in
+    record { answers = rw k m.0; later_kept = rw k m.1 }
 
 pub returns-in_default : goal.returns-in_default
 returns-in_default c =
     let listed = c.list.ensures in
-    let size : length c.no_marks-marks.result ≡ 65536 = omega (arith, c.no_marks-marks.type_inv) in
     let m =
-    cascade-nan _ _ _ _ _ _ _ c.cascade_fault-fault.ensures _ _ c.if-fault-ne0.false c.no_marks-marks.result _ size _
-    c.candidates_wanted-many.ensures c.mark_nearest.ensures _ _ _ listed.answer listed.slots_after listed.scores_after (is-other c.list.result c.in_default.not-Hits) in
+    cascade-nan _ _ _ _ _ _ _ c.in_ok-check.ensures _ _ refl (replicate 65536 0) _ (length-replicate {A = ℕ} 65536 0) _
+    c.candidates_wanted-many.ensures c.mark_nearest.ensures _ _ _ listed.answer listed.slots_after listed.scores_after (is-other c.list.result c.in_default.not-Ok) in
     record { answers = m.0; later_kept = m.1 }
 
 pub returns : goal.returns
 returns c =
     let listed = c.list.ensures in
-    let size : length c.no_marks-marks.result ≡ 65536 = omega (arith, c.no_marks-marks.type_inv) in
     let m =
-    cascade-listed _ _ _ _ _ _ _ c.cascade_fault-fault.ensures _ _ c.if-fault-ne0.false c.no_marks-marks.result _ size _
-    c.candidates_wanted-many.ensures c.mark_nearest.ensures _ _ _ listed.answer listed.slots_after listed.scores_after _ c.in-Hits.is in
+    cascade-listed _ _ _ _ _ _ _ c.in_ok-check.ensures _ _ refl (replicate 65536 0) _ (length-replicate {A = ℕ} 65536 0) _
+    c.candidates_wanted-many.ensures c.mark_nearest.ensures _ _ _ listed.answer listed.slots_after listed.scores_after _ c.in-Ok.is in
     record { answers = m.0; later_kept = m.1 }
