@@ -3,6 +3,7 @@
 
 ghost use Rattle.std.specs.Prelude.{◌≡◌, cond, ◌≤◌, ◌<◌, length, set};
 ghost use Rattle.index.specs.Arrays.{lent};
+ghost use Rattle.index.specs.Verdict.{verdict};
 ghost use Rattle.index.specs.Step as Step;
 ghost use Rattle.index.specs.Call.{call};
 ghost use Rattle.index.specs.Answers.{changed};
@@ -11,10 +12,8 @@ ghost use Rattle.held.specs.Held.{held_count};
 ghost use Rattle.relabel.specs.May.{may_change};
 ghost use Rattle.remarking.specs.Replaced.{replaced_where};
 
-use index::{Changed, Index};
-
-// "record and lent arrays misfit"
-const MISFIT: u8 = 13;
+use index::{Index, Lent};
+use refusal::Refusal;
 
 // Whether the slots of the old key may have the new one: there are some, and the new key is the old one or has none.
 fn may_relabel(keys: &[u64], keyed: &[bool], n: usize, old: u64, new: u64) -> bool
@@ -44,14 +43,13 @@ fn relabel_slots(keys: &mut [u64], keyed: &[bool], n: usize, old: u64, new: u64)
     requires { n ≤ length keys.old }
     ensures { keys.new ≡ replaced_where (slot_has keys.old keyed.now old) n new 0 keys.old }
 {
-    let mut i = 0;
-    while i < n {
+    for i in 0..n {
         relabel_slot(keys, keyed, i, old, new);
-        i += 1;
     }
 }
 
-// Yes where the old key has slots and the new one is it or has none; then they have the new key.
+// Yes, with the record, where the old key has slots and the new one is it or has none; then they have the new key.
+// The arrays come one by one, since keys alone change here: as one struct all would have to be lent to be changed, and C lends the others to be read.
 pub fn relabel(
     index: Index,
     codes: &[u8],
@@ -64,19 +62,25 @@ pub fn relabel(
     scales2: &[u32],
     old: u64,
     new: u64,
-) -> Changed
-    ensures { changed index result (lent codes.now scales.now keys.new keyed.now held.now alive.now codes2.now scales2.now)
+) -> Result<Option<Index>, Refusal>
+    ensures { changed index (verdict result) (lent codes.now scales.now keys.new keyed.now held.now alive.now codes2.now scales2.now)
         ≡ call index (lent codes.now scales.now keys.old keyed.now held.now alive.now codes2.now scales2.now)
         (Step.relabel old new) }
 {
-    if fit::fits(
-        index, codes, scales, keys, keyed, held, alive, codes2, scales2,
-    ) {
-        if may_relabel(keys, keyed, index.n, old, new) {
-            relabel_slots(keys, keyed, index.n, old, new);
-            return Changed::Yes(index);
-        }
-        return Changed::No;
+    let arrays = Lent {
+        codes,
+        scales,
+        keys: &*keys,
+        keyed,
+        held,
+        alive,
+        codes2,
+        scales2,
+    };
+    fit::check(index, &arrays)?;
+    if may_relabel(keys, keyed, index.n, old, new) {
+        relabel_slots(keys, keyed, index.n, old, new);
+        return Ok(Some(index));
     }
-    Changed::Refused(MISFIT)
+    Ok(None)
 }

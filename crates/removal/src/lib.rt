@@ -3,6 +3,7 @@
 
 ghost use Rattle.std.specs.Prelude.{◌≡◌, cond, ◌&&◌, ◌-◌, ◌≤◌, ◌<◌, length, get_or, ltb};
 ghost use Rattle.index.specs.Arrays.{lent};
+ghost use Rattle.index.specs.Verdict.{verdict};
 ghost use Rattle.index.specs.Step as Step;
 ghost use Rattle.index.specs.Call.{call};
 ghost use Rattle.index.specs.Answers.{changed};
@@ -11,10 +12,8 @@ ghost use Rattle.held.specs.Held.{held_count, held_slot};
 ghost use Rattle.remarking.specs.Live.{with_live};
 ghost use Rattle.removal.specs.Dead.{lent_marks, dead_at, dead_where, placed_at};
 
-use index::{Changed, Index};
-
-// "record and lent arrays misfit"
-const MISFIT: u8 = 13;
+use index::{Index, Lent};
+use refusal::Refusal;
 
 // Leaves a slot dead.
 fn remove_slot(keyed: &mut [bool], held: &mut [u32], alive: &mut [u8], slot: usize)
@@ -58,10 +57,8 @@ fn remove_slots(
     ensures { lent_marks keyed.new held.new alive.new
         ≡ dead_where (slot_has keys.now keyed.old key) n (lent_marks keyed.old held.old alive.old) }
 {
-    let mut i = 0;
-    while i < n {
+    for i in 0..n {
         remove_slot_of(keys, keyed, held, alive, i, key);
-        i += 1;
     }
 }
 
@@ -75,7 +72,8 @@ fn fewer(index: Index, removed: usize) -> Index
     next
 }
 
-// Yes where the key has slots; then they are dead.
+// Yes, with the record, where the key has slots; then they are dead.
+// The arrays come one by one here and below, since some alone change: as one struct all would have to be lent to be changed, and C lends the others to be read.
 pub fn remove_keyed(
     index: Index,
     codes: &[u8],
@@ -87,22 +85,28 @@ pub fn remove_keyed(
     codes2: &[u8],
     scales2: &[u32],
     key: u64,
-) -> Changed
-    ensures { changed index result (lent codes.now scales.now keys.now keyed.new held.new alive.new codes2.now scales2.now)
+) -> Result<Option<Index>, Refusal>
+    ensures { changed index (verdict result) (lent codes.now scales.now keys.now keyed.new held.new alive.new codes2.now scales2.now)
         ≡ call index (lent codes.now scales.now keys.now keyed.old held.old alive.old codes2.now scales2.now)
         (Step.remove key) }
 {
-    if fit::fits(
-        index, codes, scales, keys, keyed, held, alive, codes2, scales2,
-    ) {
-        let many = held::held_count(keys, keyed, index.n, key);
-        if many == 0 {
-            return Changed::No;
-        }
-        remove_slots(keys, keyed, held, alive, index.n, key);
-        return Changed::Yes(fewer(index, many));
+    let arrays = Lent {
+        codes,
+        scales,
+        keys,
+        keyed: &*keyed,
+        held: &*held,
+        alive: &*alive,
+        codes2,
+        scales2,
+    };
+    fit::check(index, &arrays)?;
+    let many = held::held_count(keys, keyed, index.n, key);
+    if many == 0 {
+        return Ok(None);
     }
-    Changed::Refused(MISFIT)
+    remove_slots(keys, keyed, held, alive, index.n, key);
+    Ok(Some(fewer(index, many)))
 }
 
 // ---- removal of one slot
@@ -111,10 +115,7 @@ pub fn remove_keyed(
 fn in_use(keys: &[u64], keyed: &[bool], n: usize, slot: usize, key: u64) -> bool
     ensures { result ≡ (ltb slot n && slot_has keys.now keyed.now key slot) }
 {
-    if slot < n {
-        return slot_keys::has_key(keys, keyed, slot, key);
-    }
-    false
+    slot < n && slot_keys::has_key(keys, keyed, slot, key)
 }
 
 // The slot that holds the last position of the key.
@@ -136,7 +137,7 @@ fn remove_one(keyed: &mut [bool], held: &mut [u32], alive: &mut [u8], slot: usiz
     remove_slot(keyed, held, alive, slot);
 }
 
-// Yes where the slot is in use and has the key; then it is dead, and the key's last slot takes its position.
+// Yes, with the record, where the slot is in use and has the key; then it is dead, and the key's last slot takes its position.
 pub fn remove_keyed_at(
     index: Index,
     codes: &[u8],
@@ -149,20 +150,26 @@ pub fn remove_keyed_at(
     scales2: &[u32],
     key: u64,
     slot: usize,
-) -> Changed
-    ensures { changed index result (lent codes.now scales.now keys.now keyed.new held.new alive.new codes2.now scales2.now)
+) -> Result<Option<Index>, Refusal>
+    ensures { changed index (verdict result) (lent codes.now scales.now keys.now keyed.new held.new alive.new codes2.now scales2.now)
         ≡ call index (lent codes.now scales.now keys.now keyed.old held.old alive.old codes2.now scales2.now)
         (Step.remove_at key slot) }
 {
-    if fit::fits(
-        index, codes, scales, keys, keyed, held, alive, codes2, scales2,
-    ) {
-        if in_use(keys, keyed, index.n, slot, key) {
-            let last = last_slot(keys, keyed, held, index.n, key);
-            remove_one(keyed, held, alive, slot, last);
-            return Changed::Yes(fewer(index, 1));
-        }
-        return Changed::No;
+    let arrays = Lent {
+        codes,
+        scales,
+        keys,
+        keyed: &*keyed,
+        held: &*held,
+        alive: &*alive,
+        codes2,
+        scales2,
+    };
+    fit::check(index, &arrays)?;
+    if in_use(keys, keyed, index.n, slot, key) {
+        let last = last_slot(keys, keyed, held, index.n, key);
+        remove_one(keyed, held, alive, slot, last);
+        return Ok(Some(fewer(index, 1)));
     }
-    Changed::Refused(MISFIT)
+    Ok(None)
 }

@@ -8,6 +8,3 @@ use Rattle.relabel.proofs.relabel_slots.Given as goal
 -- `relabel::relabel_slots` meets its contract: slots before i have their new key.
 abbrev pub invariant-loop-i : goal.invariant-loop-i
 invariant-loop-i l = (l.i ≤ l.n) × (length l.keys ≡ length l.initial.keys) × (l.keys ≡ replaced_where (slot_has l.initial.keys l.keyed l.old) l.i l.new 0 l.initial.keys)
-
-abbrev pub decreases-loop-i : goal.decreases-loop-i
-decreases-loop-i l = l.n - l.i

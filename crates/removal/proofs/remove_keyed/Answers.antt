@@ -1,3 +1,4 @@
+use Rattle.std.proofs.Common.{rules, ◌≡◌, Err}
 use mathlib.Core.Path.{sym, ◌∙◌}
 use Prim.Native.Nat.{◌<◌}
 use native.Mathlib.Omega.{arith}
@@ -10,34 +11,35 @@ use Rattle.removal.proofs.remove_keyed.Goals as goal
 pub returns-then-many-eq0 : goal.returns-then-many-eq0
 returns-then-many-eq0 c =
     let a = lent c.args.codes.now c.args.scales.now c.args.keys.now c.args.keyed.now c.args.held.now c.args.alive.now c.args.codes2.now c.args.scales2.now in
-    let e = sym c.fits.ensures ∙ c.if-fits.true in
+    let e = c.in_ok-check.ensures in
     sym (remove-no c.args.index a e c.args.key (sym c.held_count-many.ensures ∙ c.if-many-eq0.true))
 
 pub remove_slots-requires : goal.remove_slots-requires
 remove_slots-requires c =
     let a = lent c.args.codes.now c.args.scales.now c.args.keys.now c.args.keyed.now c.args.held.now c.args.alive.now c.args.codes2.now c.args.scales2.now in
-    let e = sym c.fits.ensures ∙ c.if-fits.true in
+    let e = c.in_ok-check.ensures in
     let r = room c.args.index a e in
     (r.keyed, r.held, r.alive)
 
 pub fewer-requires : goal.fewer-requires
 fewer-requires c =
     let a = lent c.args.codes.now c.args.scales.now c.args.keys.now c.args.keyed.now c.args.held.now c.args.alive.now c.args.codes2.now c.args.scales2.now in
-    let e = sym c.fits.ensures ∙ c.if-fits.true in
+    let e = c.in_ok-check.ensures in
     let n = c.held_count-many.ensures in
     let some : 0 < many c.args.index a e c.args.key = omega (arith, n, c.if-many-eq0.false) in
     rw n (remove-few c.args.index a e c.args.key some)
 
-pub returns-then-fits : goal.returns-then-fits
-returns-then-fits c =
+pub returns : goal.returns
+returns c =
     let a = lent c.args.codes.now c.args.scales.now c.args.keys.now c.args.keyed.now c.args.held.now c.args.alive.now c.args.codes2.now c.args.scales2.now in
-    let e = sym c.fits.ensures ∙ c.if-fits.true in
+    let e = c.in_ok-check.ensures in
     let n = c.held_count-many.ensures in
     let some : 0 < many c.args.index a e c.args.key = omega (arith, n, c.if-many-eq0.false) in
     let w = c.remove_slots.ensures in
     rw (c.fewer.ensures, n) (sym (remove-yes c.args.index a e c.args.key some _ w))
 
-pub returns : goal.returns
-returns c =
+pub returns-in_err-check : goal.returns-in_err-check
+returns-in_err-check c =
     let a = lent c.args.codes.now c.args.scales.now c.args.keys.now c.args.keyed.now c.args.held.now c.args.alive.now c.args.codes2.now c.args.scales2.now in
-    sym (call-misfit c.args.index a _ (sym c.fits.ensures ∙ c.if-fits.false))
+    let k : c.from_residual.result ≡ Err c.in_err-check.field-0.0 = search rules in
+    rw (k, c.in_err-check.ensures.1) (sym (call-misfit c.args.index a _ c.in_err-check.ensures.0))

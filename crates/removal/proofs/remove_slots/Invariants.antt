@@ -11,6 +11,3 @@ invariant-loop-i l =
     let a : SlotMarks = record { keyed = l.initial.keyed; held = l.initial.held; alive = l.initial.alive } in
     let b : SlotMarks = record { keyed = l.keyed; held = l.held; alive = l.alive } in
     (l.i ≤ l.n) × SameReach a b × (b ≡ dead_where (slot_has l.keys l.initial.keyed l.key) l.i a)
-
-abbrev pub decreases-loop-i : goal.decreases-loop-i
-decreases-loop-i l = l.n - l.i
