@@ -4,10 +4,12 @@
 
 ghost use Rattle.std.specs.Prelude.{◌≡◌, [], ◌∷◌, ◌≤◌, length};
 ghost use Rattle.lists.specs.Lists.{over};
+ghost use Rattle.index.specs.Verdict.{verdict};
 ghost use Rattle.words.specs.Words.{record_words, words_of};
 ghost use Rattle.words.specs.Put.{put, put_words, put_made, put_both, put_next, put_added, put_changed};
 
-use index::{Added, Changed, Index, Made};
+use index::{Added, Index};
+use refusal::Refusal;
 
 fn put_record(fields: &mut [u64], index: Index)
     requires { record_words ≤ length fields.old }
@@ -48,38 +50,42 @@ pub fn put_word(word: u64, answer: &mut [u64]) -> u8
 }
 
 // The words of the record.
-pub fn put_made(made: Made, fields: &mut [u64]) -> u8
-    ensures { put result fields.new ≡ put_made made fields.old }
+pub fn put_made(made: Result<Index, Refusal>, fields: &mut [u64]) -> u8
+    ensures { put result fields.new ≡ put_made (verdict made) fields.old }
 {
     match made {
-        Made::Index(index) => {
+        Ok(index) => {
             if words::RECORD_WORDS <= fields.len() {
                 put_record(fields, index);
                 return 0;
             }
             13
         }
-        Made::Refused(number) => number,
+        Err(refused) => u8::from(refused),
     }
 }
 
 // The words of the record, and the slot.
-pub fn put_added(added: Added, fields: &mut [u64], answer: &mut [u64]) -> u8
-    ensures { put_both result fields.new answer.new ≡ put_added added fields.old answer.old }
+pub fn put_added(added: Result<Added, Refusal>, fields: &mut [u64], answer: &mut [u64]) -> u8
+    ensures { put_both result fields.new answer.new ≡ put_added (verdict added) fields.old answer.old }
 {
     match added {
-        Added::Slot(slot, index) => put_next(index, slot as u64, fields, answer),
-        Added::Refused(number) => number,
+        Ok(added) => put_next(added.index, added.slot as u64, fields, answer),
+        Err(refusal) => u8::from(refusal),
     }
 }
 
 // The words of the record, and 1 for yes; 0 for no, which has no new record.
-pub fn put_changed(changed: Changed, fields: &mut [u64], answer: &mut [u64]) -> u8
-    ensures { put_both result fields.new answer.new ≡ put_changed changed fields.old answer.old }
+pub fn put_changed(
+    changed: Result<Option<Index>, Refusal>,
+    fields: &mut [u64],
+    answer: &mut [u64],
+) -> u8
+    ensures { put_both result fields.new answer.new ≡ put_changed (verdict changed) fields.old answer.old }
 {
     match changed {
-        Changed::Yes(index) => put_next(index, 1, fields, answer),
-        Changed::No => put_word(0, answer),
-        Changed::Refused(number) => number,
+        Ok(Some(index)) => put_next(index, 1, fields, answer),
+        Ok(None) => put_word(0, answer),
+        Err(refusal) => u8::from(refusal),
     }
 }

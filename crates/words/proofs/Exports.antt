@@ -22,29 +22,29 @@ use Rattle.index.specs.Answers.{result_of, made, added, changed, asked, key_is, 
 use Rattle.index.proofs.Refusals.{never-0}
 use Rattle.index.specs.Make.{Begun, begun, make}
 use Rattle.index.specs.Read.{state_in, read_refusal, read_unless, read_into}
-use Rattle.words.specs.declared.Record.{Record}
-use Rattle.words.specs.Words.{record_words, words_of, record_in, record_beside}
+use Rattle.std.specs.Prelude.{Bool, true, false, Option, Some, None}
+use Rattle.words.specs.Words.{Record, record_words, words_of, record_in, record_beside}
 use Rattle.words.specs.Put.{Put, put, in_words, put_answer, put_made, put_found, PutBoth, put_both, put_next, put_added, put_changed}
 use Rattle.words.specs.Exports.{by_record, Left, left, leaves, left_by, makes, reads, found_in, written_in, word_count, answer_beside}
 use Rattle.words.proofs.Records.{eight, beside, written-again}
 use Rattle.words.proofs.Words.{words-short, words-put, found-told, written-told}
 
 -- by the record that a call for C read
-by-misfit : {A : Type 0} (r : Record) (m : A) (f : Index → A) → r ≡ Record.Misfit → m ≡ by_record r m f
+by-misfit : {A : Type 0} (r : Record) (m : A) (f : Index → A) → r ≡ None → m ≡ by_record r m f
 by-misfit r m f e = ap (λ (s : Record). by_record s m f) (sym e)
 
-by-fields : {A : Type 0} (r : Record) (x : Index) (m : A) (f : Index → A) → r ≡ Record.Fields x → f x ≡ by_record r m f
+by-fields : {A : Type 0} (r : Record) (x : Index) (m : A) (f : Index → A) → r ≡ Some x → f x ≡ by_record r m f
 by-fields r x m f e = ap (λ (s : Record). by_record s m f) (sym e)
 
 -- ---- calls whose answer is in words alone
 
 module _ (places : ℕ) (fs ws : List ℕ) (r : Record) (e : r ≡ record_beside places fs ws) where
-  pub misfit-left : (op : Op) (a : Arrays) → r ≡ Record.Misfit → left 13 fs ws a ≡ left_by places op fs ws a
+  pub misfit-left : (op : Op) (a : Arrays) → r ≡ None → left 13 fs ws a ≡ left_by places op fs ws a
   unfolding left_by
   misfit-left op a m = by-misfit _ _ _ (sym e ∙ m)
 
-  module _ (x : Index) (is : r ≡ Record.Fields x) where
-    room : (places ≤ length ws) × (Record.Fields x ≡ record_in fs)
+  module _ (x : Index) (is : r ≡ Some x) where
+    room : (places ≤ length ws) × (Some x ≡ record_in fs)
     room = beside fs places ws x (sym is ∙ e)
 
     -- the words of the record that was read
@@ -93,11 +93,11 @@ length-words (turned_down n) = omega arith
 -- ---- a word beside the record
 
 module _ (fs ws : List ℕ) (r : Record) (e : r ≡ record_beside 1 fs ws) where
-  pub no_record : (op : Op) (a : Arrays) → r ≡ Record.Misfit → refused 13 ≡ answer_beside op a fs ws
+  pub no_record : (op : Op) (a : Arrays) → r ≡ None → refused 13 ≡ answer_beside op a fs ws
   unfolding answer_beside
   no_record op a m = by-misfit _ _ _ (sym e ∙ m)
 
-  module _ (x : Index) (is : r ≡ Record.Fields x) where
+  module _ (x : Index) (is : r ≡ Some x) where
     place : 1 ≤ length ws
     place = (room 1 fs ws r e x is).0
 
@@ -112,7 +112,7 @@ module _ (fs ws : List ℕ) (r : Record) (e : r ≡ record_beside 1 fs ws) where
       by_both o g q l n fs' ws' p = ap (λ (z : PutBoth). left z.number z.fields z.answer b) p ∙ l ∙ by_call 1 fs ws r e x is op a o g
 
       pub added-left : (d : Verdict Added) → added x d b ≡ call x a op → (n : ℕ) (fs' ws' : List ℕ) → put_both n fs' ws' ≡ put_added d fs ws → left n fs' ws' b ≡ left_by 1 op fs ws a
-      added-left (taken y) g = by_both _ g _ (next-left y i (slot i) refl b)
+      added-left (taken y) g = by_both _ g _ (next-left y.index y.slot (slot y.slot) refl b)
       added-left (turned_down k) g = by_both _ g _ (refusal-left 1 fs ws r e x is k b)
 
       pub changed-left : (d : Verdict (Option Index)) → changed x d b ≡ call x a op → (n : ℕ) (fs' ws' : List ℕ) → put_both n fs' ws' ≡ put_changed d fs ws → left n fs' ws' b ≡ left_by 1 op fs ws a
@@ -165,10 +165,10 @@ unfolding record_beside
 beside_none fs = refl
 
 module _ (fs : List ℕ) (r : Record) (e : r ≡ record_in fs) (op : Op) (a : Arrays) where
-  pub unread-left : r ≡ Record.Misfit → left 13 fs [] a ≡ left_by 0 op fs [] a
+  pub unread-left : r ≡ None → left 13 fs [] a ≡ left_by 0 op fs [] a
   unread-left = misfit-left 0 fs [] r (e ∙ beside_none fs) op a
 
-  module _ (x : Index) (is : r ≡ Record.Fields x) (b : Arrays) where
+  module _ (x : Index) (is : r ≡ Some x) (b : Arrays) where
     by-record : (o : Result) → o ≡ call x a op → (q : Put) → left q.number q.words [] b ≡ leaves o fs [] → (n : ℕ) (fs' : List ℕ) → put n fs' ≡ q →
         left n fs' [] b ≡ left_by 0 op fs [] a
     by-record o g q l n fs' p = ap (λ (z : Put). left z.number z.words [] b) p ∙ l ∙ by_call 0 fs [] r (e ∙ beside_none fs) x is op a o g

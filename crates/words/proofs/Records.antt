@@ -12,8 +12,8 @@ use Rattle.lists.specs.Keep.{bit}
 use Rattle.lists.proofs.Tests.{both}
 use Rattle.lists.proofs.Front.{over-own}
 use Rattle.index.specs.declared.Index.{Index}
-use Rattle.words.specs.declared.Record.{Record}
-use Rattle.words.specs.Words.{record_words, words_of, fields_in, typed, record_in, record_beside}
+use Rattle.std.specs.Prelude.{Some, None}
+use Rattle.words.specs.Words.{Record, record_words, words_of, fields_in, typed, record_in, record_beside}
 
 -- a byte fits
 pub byte_typed : (b r c : ℕ) → typed b r c ≡ true → b < 256
@@ -25,40 +25,40 @@ flags-typed b r c h =
     ((both (leb b 255) (leb r 1) parts.0).1, parts.1)
 
 module _ (ws : List ℕ) where
-  pub too_few : length ws < record_words → Record.Misfit ≡ record_in ws
+  pub too_few : length ws < record_words → None ≡ record_in ws
   unfolding record_in
   too_few h = rw (lt-leb record_words (length ws) h)
 
   module _ (h : record_words ≤ length ws) where
-    pub untyped : typed (get_or ws 3 0) (get_or ws 4 0) (get_or ws 7 0) ≡ false → Record.Misfit ≡ record_in ws
+    pub untyped : typed (get_or ws 3 0) (get_or ws 4 0) (get_or ws 7 0) ≡ false → None ≡ record_in ws
     unfolding record_in
     untyped e = rw (le-leb record_words (length ws) h, e)
 
-    pub all_typed : typed (get_or ws 3 0) (get_or ws 4 0) (get_or ws 7 0) ≡ true → Record.Fields (fields_in ws) ≡ record_in ws
+    pub all_typed : typed (get_or ws 3 0) (get_or ws 4 0) (get_or ws 7 0) ≡ true → Some (fields_in ws) ≡ record_in ws
     unfolding record_in
     all_typed e = rw (le-leb record_words (length ws) h, e)
 
   -- a record is that of eight words at least, which are typed
-  pub said : (x : Index) → Record.Fields x ≡ record_in ws → (record_words ≤ length ws) × ((typed (get_or ws 3 0) (get_or ws 4 0) (get_or ws 7 0) ≡ true) × (x ≡ fields_in ws))
+  pub said : (x : Index) → Some x ≡ record_in ws → (record_words ≤ length ws) × ((typed (get_or ws 3 0) (get_or ws 4 0) (get_or ws 7 0) ≡ true) × (x ≡ fields_in ws))
   unfolding record_in
   said x e = go (leb record_words (length ws) && typed (get_or ws 3 0) (get_or ws 4 0) (get_or ws 7 0)) refl
     where
       record_or : Record → Index
-      record_or (Record.Fields y) = y
-      record_or Record.Misfit = x
+      record_or (Some y) = y
+      record_or None = x
 
       go : (b : Bool) → (leb record_words (length ws) && typed (get_or ws 3 0) (get_or ws 4 0) (get_or ws 7 0)) ≡ b →
           (record_words ≤ length ws) × ((typed (get_or ws 3 0) (get_or ws 4 0) (get_or ws 7 0) ≡ true) × (x ≡ fields_in ws))
       go true t =
           let parts = both (leb record_words (length ws)) (typed (get_or ws 3 0) (get_or ws 4 0) (get_or ws 7 0)) t in
-          (leb-true record_words (length ws) parts.0, (parts.1, ap record_or {x = Record.Fields x} {y = Record.Fields (fields_in ws)} (rw t at e)))
+          (leb-true record_words (length ws) parts.0, (parts.1, ap record_or {x = Some x} {y = Some (fields_in ws)} (rw t at e)))
       go false t = absurd (let z : ◌≡◌ {A = ℕ} 0 1 = cc (rw t at e) in omega arith)
 
-  pub eight : (x : Index) → Record.Fields x ≡ record_in ws → record_words ≤ length ws
+  pub eight : (x : Index) → Some x ≡ record_in ws → record_words ≤ length ws
   eight x e = (said x e).0
 
   module _ (places : ℕ) (answer : List ℕ) where
-    pub few-places : length answer < places → Record.Misfit ≡ record_beside places ws answer
+    pub few-places : length answer < places → None ≡ record_beside places ws answer
     unfolding record_beside
     few-places h = rw (lt-ltb (length answer) places h)
 
@@ -67,11 +67,11 @@ module _ (ws : List ℕ) where
     enough-places h = rw (le-ltb (length answer) places h)
 
     -- a record beside an answer: there are the places, and it is the words' record
-    pub beside : (x : Index) → Record.Fields x ≡ record_beside places ws answer → (places ≤ length answer) × (Record.Fields x ≡ record_in ws)
+    pub beside : (x : Index) → Some x ≡ record_beside places ws answer → (places ≤ length answer) × (Some x ≡ record_in ws)
     unfolding record_beside
     beside x e = go (ltb (length answer) places) refl
       where
-        go : (b : Bool) → ltb (length answer) places ≡ b → (places ≤ length answer) × (Record.Fields x ≡ record_in ws)
+        go : (b : Bool) → ltb (length answer) places ≡ b → (places ≤ length answer) × (Some x ≡ record_in ws)
         go true t = absurd (let z : ◌≡◌ {A = ℕ} 0 1 = cc (rw t at e) in omega arith)
         go false t = (ltb-false (length answer) places t, rw t at e)
 
@@ -100,10 +100,10 @@ module _ (x : Index) (fs : List ℕ) where
         cascade = flag-back x.cascade i;
       }
 
-  pub read_back : x.bits ≤ 255 → Record.Fields x ≡ record_in (over (words_of x) fs)
+  pub read_back : x.bits ≤ 255 → Some x ≡ record_in (over (words_of x) fs)
   unfolding words_of over
   read_back h =
-      ap Record.Fields (sym fields_back)
+      ap Some (sym fields_back)
       ∙ all_typed (over (words_of x) fs) (omega arith) (rw (le-leb x.bits 255 h, flag-typed x.residual) (flag-typed x.cascade))
 
 -- ---- what was read and is written again leaves the words as they were
@@ -113,7 +113,7 @@ word-of-flag zero h = refl
 word-of-flag (suc zero) h = refl
 word-of-flag (suc (suc w)) h = absurd (let z = leb-true (suc (suc w)) 1 h in omega (arith, z))
 
-pub written-again : (ws : List ℕ) (x : Index) → Record.Fields x ≡ record_in ws → ws ≡ over (words_of x) ws
+pub written-again : (ws : List ℕ) (x : Index) → Some x ≡ record_in ws → ws ≡ over (words_of x) ws
 unfolding words_of fields_in
 written-again ws x e =
     let s = said ws x e in

@@ -10,8 +10,8 @@ use Rattle.index.specs.Step.{Op, Answer, refused}
 use Rattle.index.specs.Call.{Result, call}
 use Rattle.index.specs.Make.{make}
 use Rattle.index.specs.Read.{read_into}
-use Rattle.words.specs.declared.Record.{Record}
-use Rattle.words.specs.Words.{words_of, record_beside}
+use Rattle.std.specs.Prelude.{Some, None}
+use Rattle.words.specs.Words.{Record, words_of, record_beside}
 use Rattle.words.specs.Put.{in_words, put_made}
 
 -- The number of this set of raw signatures. Whoever changes one raises it, since a stale declaration of twenty arguments still links.
@@ -19,8 +19,8 @@ abbrev pub abi : ℕ
 abi = 1
 
 abbrev pub by_record : {A : Type 0} → Record → (misfit : A) → (Index → A) → A
-by_record Record.Misfit m f = m
-by_record (Record.Fields x) m f = f x
+by_record None m f = m
+by_record (Some x) m f = f x
 
 -- ---- calls whose answer is in words alone
 

@@ -1,5 +1,6 @@
 -- The answers of calls as a number, 0 where the call is accepted, and words over the first places of lent slices. A refusal is its number, and no word is written.
-use Rattle.std.specs.Prelude.{cond, ◌||◌, List, [], ◌∷◌, ℕ, length, ltb}
+use Rattle.std.specs.Prelude.{cond, ◌||◌, List, [], ◌∷◌, ℕ, length, ltb, Some, None}
+use Rattle.std.specs.Prelude as Std
 use Rattle.std.proofs.Math.Option.{Option, none, some}
 use Rattle.std.specs.Float.{binary32}
 use Rattle.std.specs.Float.Ieee.{to_bits}
@@ -74,11 +75,11 @@ put_next x new fs ws =
 
 -- the slot
 abbrev pub put_added : Verdict Added → (fields answer : List ℕ) → PutBoth
-put_added (taken x) fs ws = put_next x (i ∷ []) fs ws
+put_added (taken y) fs ws = put_next y.index (y.slot ∷ []) fs ws
 put_added (turned_down n) fs ws = put_both n fs ws
 
 -- yes, or no, which hands back no record
-abbrev pub put_changed : Verdict (Option Index) → (fields answer : List ℕ) → PutBoth
+abbrev pub put_changed : Verdict (Std.Option Index) → (fields answer : List ℕ) → PutBoth
 put_changed (taken (Some x)) fs ws = put_next x (1 ∷ []) fs ws
 put_changed (taken None) fs ws =
     let p = put_words 0 (0 ∷ []) ws in

@@ -1,8 +1,7 @@
 -- The record of an index as words of 64 bits, for C and Rust: its eight fields in their order, a flag as 0 or 1.
-use Rattle.std.specs.Prelude.{Bool, cond, ◌&&◌, List, [], ◌∷◌, ℕ, length, get_or, leb, ltb, eqb}
+use Rattle.std.specs.Prelude.{Bool, cond, ◌&&◌, List, [], ◌∷◌, ℕ, length, get_or, leb, ltb, eqb, Option, Some, None}
 use Rattle.lists.specs.Keep.{bit}
 use Rattle.index.specs.declared.Index.{Index}
-use Rattle.words.specs.declared.Record.{Record}
 
 -- how many words that is
 abbrev pub record_words : ℕ
@@ -28,10 +27,14 @@ fields_in ws =
 abbrev pub typed : (bits residual cascade : ℕ) → Bool
 typed b r c = leb b 255 && leb r 1 && leb c 1
 
+-- what words say: a record, or none
+abbrev pub Record : Type 0
+Record = Option Index
+
 -- the record that the first words say; none where there are fewer, or where one is no value of its field's type
 unfoldable pub record_in : (words : List ℕ) → Record
-record_in ws = cond (leb record_words (length ws) && typed (get_or ws 3 0) (get_or ws 4 0) (get_or ws 7 0)) (Record.Fields (fields_in ws)) Record.Misfit
+record_in ws = cond (leb record_words (length ws) && typed (get_or ws 3 0) (get_or ws 4 0) (get_or ws 7 0)) (Some (fields_in ws)) None
 
 -- of a call that answers so many words at most: none also where there are fewer places for them
 unfoldable pub record_beside : (places : ℕ) → (words answer : List ℕ) → Record
-record_beside p ws answer = cond (ltb (length answer) p) Record.Misfit (record_in ws)
+record_beside p ws answer = cond (ltb (length answer) p) None (record_in ws)

@@ -12,30 +12,23 @@ pub const RECORD_WORDS: usize = 8;
 // The number of the raw signatures: `abi` in specs/Exports.antt says when it is raised.
 pub const ABI: u64 = 1;
 
-// What the words of a record say.
-#[derive(Drop)]
-pub enum Record {
-    Fields(Index),
-    Misfit,
-}
-
 fn typed(bits: u64, residual: u64, cascade: u64) -> bool
     ensures { result ≡ Words.typed bits residual cascade }
 {
     (bits <= 255) & (residual <= 1) & (cascade <= 1)
 }
 
-// The words are dim, working_dim, seed, bits, residual, n, live and cascade.
-pub fn record_in(fields: &[u64]) -> Record
+// The record that the first words say, if they say one. They are dim, working_dim, seed, bits, residual, n, live and cascade.
+pub fn record_in(fields: &[u64]) -> Option<Index>
     ensures { result ≡ Words.record_in fields.now }
 {
     if fields.len() < RECORD_WORDS {
-        return Record::Misfit;
+        return None;
     }
     if !typed(fields[3], fields[4], fields[7]) {
-        return Record::Misfit;
+        return None;
     }
-    Record::Fields(Index {
+    Some(Index {
         dim: fields[0] as usize,
         working_dim: fields[1] as usize,
         seed: fields[2],
@@ -48,11 +41,11 @@ pub fn record_in(fields: &[u64]) -> Record
 }
 
 // The same for a call that answers so many words at most, which need places.
-pub fn record_beside(fields: &[u64], answer: &[u64], places: usize) -> Record
+pub fn record_beside(fields: &[u64], answer: &[u64], places: usize) -> Option<Index>
     ensures { result ≡ Words.record_beside places fields.now answer.now }
 {
     if answer.len() < places {
-        return Record::Misfit;
+        return None;
     }
     record_in(fields)
 }

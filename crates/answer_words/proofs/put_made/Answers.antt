@@ -4,8 +4,8 @@ use Rattle.answer_words.proofs.put_made.Goals as goal
 
 pub returns-then-fields-ge-RECORD_WORDS : goal.returns-then-fields-ge-RECORD_WORDS
 returns-then-fields-ge-RECORD_WORDS c =
-    rw c.in-Index.is
+    rw c.in-Ok.is
     (record-put _ _ c.if-fields-ge-RECORD_WORDS.true c.put_record.ensures)
 
 pub returns-else-fields-ge-RECORD_WORDS : goal.returns-else-fields-ge-RECORD_WORDS
-returns-else-fields-ge-RECORD_WORDS c = rw c.in-Index.is (record-short _ _ (omega (arith, c.if-fields-ge-RECORD_WORDS.false)))
+returns-else-fields-ge-RECORD_WORDS c = rw c.in-Ok.is (record-short _ _ (omega (arith, c.if-fields-ge-RECORD_WORDS.false)))
