@@ -7,7 +7,7 @@ ghost use Rattle.index.specs.Step as Step;
 ghost use Rattle.index.specs.Step.{item_of};
 ghost use Rattle.words.specs.Exports.{left, left_by};
 
-use words::Record;
+use index::LentMut;
 
 #[unsafe(no_mangle)]
 pub extern "C" fn vecq_raw_add(
@@ -28,11 +28,10 @@ pub extern "C" fn vecq_raw_add(
         ≡ left_by 1 (Step.add (item_of vector.now)) fields.old answer.old
         (lent codes.old scales.old keys.old keyed.old held.old alive.old codes2.old scales2.old) }
 {
-    let Record::Fields(index) = words::record_beside(fields, answer, 1) else {
+    let Some(index) = words::record_beside(fields, answer, 1) else {
         return 13;
     };
-    let added = add::add(
-        index, codes, scales, keys, keyed, held, alive, codes2, scales2, vector,
-    );
+    let mut arrays = LentMut { codes, scales, keys, keyed, held, alive, codes2, scales2 };
+    let added = add::add(index, &mut arrays, vector);
     answer_words::put_added(added, fields, answer)
 }

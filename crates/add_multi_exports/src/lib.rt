@@ -7,7 +7,7 @@ ghost use Rattle.index.specs.Step as Step;
 ghost use Rattle.index.specs.Step.{item_of};
 ghost use Rattle.words.specs.Exports.{left, left_by};
 
-use words::Record;
+use index::LentMut;
 
 #[unsafe(no_mangle)]
 pub extern "C" fn vecq_raw_add_keyed_multi(
@@ -29,11 +29,10 @@ pub extern "C" fn vecq_raw_add_keyed_multi(
         ≡ left_by 1 (Step.add_multi key (item_of vector.now)) fields.old answer.old
         (lent codes.old scales.old keys.old keyed.old held.old alive.old codes2.old scales2.old) }
 {
-    let Record::Fields(index) = words::record_beside(fields, answer, 1) else {
+    let Some(index) = words::record_beside(fields, answer, 1) else {
         return 13;
     };
-    let added_multi = add_multi::add_keyed_multi(
-        index, codes, scales, keys, keyed, held, alive, codes2, scales2, key, vector,
-    );
+    let mut arrays = LentMut { codes, scales, keys, keyed, held, alive, codes2, scales2 };
+    let added_multi = add_multi::add_keyed_multi(index, &mut arrays, key, vector);
     answer_words::put_added(added_multi, fields, answer)
 }

@@ -7,8 +7,6 @@ ghost use Rattle.index.specs.Arrays.{lent};
 ghost use Rattle.index.specs.Step as Step;
 ghost use Rattle.words.specs.Exports.{left, left_by};
 
-use words::Record;
-
 #[unsafe(no_mangle)]
 pub extern "C" fn vecq_raw_relabel(
     fields: &mut [u64],
@@ -29,7 +27,7 @@ pub extern "C" fn vecq_raw_relabel(
         ≡ left_by 1 (Step.relabel old new) fields.old answer.old
         (lent codes.now scales.now keys.old keyed.now held.now alive.now codes2.now scales2.now) }
 {
-    let Record::Fields(index) = words::record_beside(fields, answer, 1) else {
+    let Some(index) = words::record_beside(fields, answer, 1) else {
         return 13;
     };
     let relabelled = relabel::relabel(
@@ -57,7 +55,7 @@ pub extern "C" fn vecq_raw_remove_keyed(
         ≡ left_by 1 (Step.remove key) fields.old answer.old
         (lent codes.now scales.now keys.now keyed.old held.old alive.old codes2.now scales2.now) }
 {
-    let Record::Fields(index) = words::record_beside(fields, answer, 1) else {
+    let Some(index) = words::record_beside(fields, answer, 1) else {
         return 13;
     };
     let removed = removal::remove_keyed(
@@ -86,7 +84,7 @@ pub extern "C" fn vecq_raw_remove_keyed_at(
         ≡ left_by 1 (Step.remove_at key slot) fields.old answer.old
         (lent codes.now scales.now keys.now keyed.old held.old alive.old codes2.now scales2.now) }
 {
-    let Record::Fields(index) = words::record_beside(fields, answer, 1) else {
+    let Some(index) = words::record_beside(fields, answer, 1) else {
         return 13;
     };
     let removed_at = removal::remove_keyed_at(

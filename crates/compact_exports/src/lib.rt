@@ -6,7 +6,7 @@ ghost use Rattle.index.specs.Arrays.{lent};
 ghost use Rattle.index.specs.Step.{compact};
 ghost use Rattle.words.specs.Exports.{left, left_by};
 
-use words::Record;
+use index::LentMut;
 
 #[unsafe(no_mangle)]
 pub extern "C" fn vecq_raw_compact(
@@ -25,11 +25,10 @@ pub extern "C" fn vecq_raw_compact(
         ≡ left_by 0 compact fields.old []
         (lent codes.old scales.old keys.old keyed.old held.old alive.old codes2.old scales2.old) }
 {
-    let Record::Fields(index) = words::record_in(fields) else {
+    let Some(index) = words::record_in(fields) else {
         return 13;
     };
-    let compacted = compact::compact(
-        index, codes, scales, keys, keyed, held, alive, codes2, scales2,
-    );
+    let mut arrays = LentMut { codes, scales, keys, keyed, held, alive, codes2, scales2 };
+    let compacted = compact::compact(index, &mut arrays);
     answer_words::put_made(compacted, fields)
 }

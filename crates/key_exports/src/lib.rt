@@ -3,14 +3,15 @@
 
 ghost use Rattle.std.specs.Prelude.{◌≡◌, [], ◌∷◌};
 ghost use Rattle.index.specs.Arrays.{lent};
+ghost use Rattle.index.specs.Verdict.{verdict};
 ghost use Rattle.index.specs.Step.{key_of, contains, slot_of};
 ghost use Rattle.index.specs.Answers as Answers;
 ghost use Rattle.index.specs.Answers.{key_is, held_is};
 ghost use Rattle.words.specs.Put.{put, put_words, put_answer};
 ghost use Rattle.words.specs.Exports.{left, left_by};
 
-use index::{Asked, Held, Keyed};
-use words::Record;
+use index::Lent;
+use refusal::Refusal;
 
 // A word that there might not be, after a 1.
 fn put_some(word: u64, answer: &mut [u64]) -> u8
@@ -24,33 +25,32 @@ fn put_some(word: u64, answer: &mut [u64]) -> u8
     0
 }
 
-fn put_keyed(keyed: Keyed, answer: &mut [u64]) -> u8
-    ensures { put result answer.new ≡ put_answer (key_is keyed) answer.old }
+fn put_keyed(keyed: Result<Option<u64>, Refusal>, answer: &mut [u64]) -> u8
+    ensures { put result answer.new ≡ put_answer (key_is (verdict keyed)) answer.old }
 {
     match keyed {
-        Keyed::Key(key) => put_some(key, answer),
-        Keyed::None => answer_words::put_word(0, answer),
-        Keyed::Refused(number) => number,
+        Ok(Some(key)) => put_some(key, answer),
+        Ok(None) => answer_words::put_word(0, answer),
+        Err(refusal) => u8::from(refusal),
     }
 }
 
-fn put_asked(asked: Asked, answer: &mut [u64]) -> u8
-    ensures { put result answer.new ≡ put_answer (Answers.asked asked) answer.old }
+fn put_asked(asked: Result<bool, Refusal>, answer: &mut [u64]) -> u8
+    ensures { put result answer.new ≡ put_answer (Answers.asked (verdict asked)) answer.old }
 {
     match asked {
-        Asked::Yes => answer_words::put_word(1, answer),
-        Asked::No => answer_words::put_word(0, answer),
-        Asked::Refused(number) => number,
+        Ok(yes) => answer_words::put_word(yes as u64, answer),
+        Err(refusal) => u8::from(refusal),
     }
 }
 
-fn put_held(held: Held, answer: &mut [u64]) -> u8
-    ensures { put result answer.new ≡ put_answer (held_is held) answer.old }
+fn put_held(held: Result<Option<usize>, Refusal>, answer: &mut [u64]) -> u8
+    ensures { put result answer.new ≡ put_answer (held_is (verdict held)) answer.old }
 {
     match held {
-        Held::Slot(slot) => put_some(slot as u64, answer),
-        Held::None => answer_words::put_word(0, answer),
-        Held::Refused(number) => number,
+        Ok(Some(slot)) => put_some(slot as u64, answer),
+        Ok(None) => answer_words::put_word(0, answer),
+        Err(refusal) => u8::from(refusal),
     }
 }
 
@@ -72,12 +72,20 @@ pub extern "C" fn vecq_raw_key_of(
     ensures { let a = lent codes.now scales.now keys.now keyed.now held.now alive.now codes2.now scales2.now in
         left result fields.now answer.new a ≡ left_by 2 (key_of slot) fields.now answer.old a }
 {
-    let Record::Fields(index) = words::record_beside(fields, answer, 2) else {
+    let Some(index) = words::record_beside(fields, answer, 2) else {
         return 13;
     };
-    let keyed_as = keys::key_of(
-        index, codes, scales, keys, keyed, held, alive, codes2, scales2, slot,
-    );
+    let arrays = Lent {
+        codes,
+        scales,
+        keys,
+        keyed,
+        held,
+        alive,
+        codes2,
+        scales2,
+    };
+    let keyed_as = keys::key_of(index, &arrays, slot);
     put_keyed(keyed_as, answer)
 }
 
@@ -99,12 +107,20 @@ pub extern "C" fn vecq_raw_contains_key(
     ensures { let a = lent codes.now scales.now keys.now keyed.now held.now alive.now codes2.now scales2.now in
         left result fields.now answer.new a ≡ left_by 1 (contains key) fields.now answer.old a }
 {
-    let Record::Fields(index) = words::record_beside(fields, answer, 1) else {
+    let Some(index) = words::record_beside(fields, answer, 1) else {
         return 13;
     };
-    let contained = keys::contains_key(
-        index, codes, scales, keys, keyed, held, alive, codes2, scales2, key,
-    );
+    let arrays = Lent {
+        codes,
+        scales,
+        keys,
+        keyed,
+        held,
+        alive,
+        codes2,
+        scales2,
+    };
+    let contained = keys::contains_key(index, &arrays, key);
     put_asked(contained, answer)
 }
 
@@ -127,11 +143,19 @@ pub extern "C" fn vecq_raw_slot_at(
     ensures { let a = lent codes.now scales.now keys.now keyed.now held.now alive.now codes2.now scales2.now in
         left result fields.now answer.new a ≡ left_by 2 (slot_of key position) fields.now answer.old a }
 {
-    let Record::Fields(index) = words::record_beside(fields, answer, 2) else {
+    let Some(index) = words::record_beside(fields, answer, 2) else {
         return 13;
     };
-    let held_at = keys::slot_at(
-        index, codes, scales, keys, keyed, held, alive, codes2, scales2, key, position,
-    );
+    let arrays = Lent {
+        codes,
+        scales,
+        keys,
+        keyed,
+        held,
+        alive,
+        codes2,
+        scales2,
+    };
+    let held_at = keys::slot_at(index, &arrays, key, position);
     put_held(held_at, answer)
 }

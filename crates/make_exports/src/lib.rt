@@ -6,6 +6,8 @@ ghost use Rattle.index.specs.Arrays.{lent};
 ghost use Rattle.index.specs.Make.{new_header};
 ghost use Rattle.words.specs.Exports.{left, makes, abi};
 
+use index::Lent;
+
 // What a caller compares with the number that its own declarations are for.
 #[unsafe(no_mangle)]
 pub extern "C" fn vecq_raw_abi() -> u64
@@ -31,9 +33,17 @@ pub extern "C" fn vecq_raw_new(
     ensures { let a = lent codes.now scales.now keys.now keyed.now held.now alive.now codes2.now scales2.now in
         left result fields.new [] a ≡ makes (new_header dim dim seed false) fields.old a }
 {
-    let made_new = make::new(
-        dim, seed, codes, scales, keys, keyed, held, alive, codes2, scales2,
-    );
+    let arrays = Lent {
+        codes,
+        scales,
+        keys,
+        keyed,
+        held,
+        alive,
+        codes2,
+        scales2,
+    };
+    let made_new = make::new(dim, seed, &arrays);
     answer_words::put_made(made_new, fields)
 }
 
@@ -55,10 +65,7 @@ pub extern "C" fn vecq_raw_with_working_dim(
     ensures { let a = lent codes.now scales.now keys.now keyed.now held.now alive.now codes2.now scales2.now in
         left result fields.new [] a ≡ makes (new_header dim working_dim seed false) fields.old a }
 {
-    let made_working = make::with_working_dim(
-        dim,
-        working_dim,
-        seed,
+    let arrays = Lent {
         codes,
         scales,
         keys,
@@ -67,7 +74,8 @@ pub extern "C" fn vecq_raw_with_working_dim(
         alive,
         codes2,
         scales2,
-    );
+    };
+    let made_working = make::with_working_dim(dim, working_dim, seed, &arrays);
     answer_words::put_made(made_working, fields)
 }
 
@@ -88,8 +96,16 @@ pub extern "C" fn vecq_raw_with_residual(
     ensures { let a = lent codes.now scales.now keys.now keyed.now held.now alive.now codes2.now scales2.now in
         left result fields.new [] a ≡ makes (new_header dim dim seed true) fields.old a }
 {
-    let made_residual = make::with_residual(
-        dim, seed, codes, scales, keys, keyed, held, alive, codes2, scales2,
-    );
+    let arrays = Lent {
+        codes,
+        scales,
+        keys,
+        keyed,
+        held,
+        alive,
+        codes2,
+        scales2,
+    };
+    let made_residual = make::with_residual(dim, seed, &arrays);
     answer_words::put_made(made_residual, fields)
 }

@@ -7,6 +7,8 @@ ghost use Rattle.index.specs.Step.{first_of};
 ghost use Rattle.index.specs.Read.{read_refusal};
 ghost use Rattle.words.specs.Exports.{left, reads};
 
+use index::{Lent, LentMut};
+
 // The refusal where the record has no place: 01 asks for what the file says first.
 fn without_place(
     codes: &[u8],
@@ -22,9 +24,8 @@ fn without_place(
     ensures { result ≡ first_of (read_refusal file.now
         (lent codes.now scales.now keys.now keyed.now held.now alive.now codes2.now scales2.now) ∷ 13 ∷ []) }
 {
-    let fault = read::read_fault(
-        codes, scales, keys, keyed, held, alive, codes2, scales2, file,
-    );
+    let arrays = Lent { codes, scales, keys, keyed, held, alive, codes2, scales2 };
+    let fault = read::read_fault(&arrays, file);
     if fault == 0 {
         return 13;
     }
@@ -55,8 +56,7 @@ pub extern "C" fn vecq_raw_from_bytes(
             codes, scales, keys, keyed, held, alive, codes2, scales2, file,
         );
     }
-    let read = read::from_bytes(
-        codes, scales, keys, keyed, held, alive, codes2, scales2, file,
-    );
+    let mut arrays = LentMut { codes, scales, keys, keyed, held, alive, codes2, scales2 };
+    let read = read::from_bytes(&mut arrays, file);
     answer_words::put_made(read, fields)
 }

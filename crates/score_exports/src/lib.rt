@@ -9,8 +9,8 @@ ghost use Rattle.index.specs.Answers as Answers;
 ghost use Rattle.words.specs.Put.{put, put_answer};
 ghost use Rattle.words.specs.Exports.{left, left_by};
 
+use index::Lent;
 use score::Scored;
-use words::Record;
 
 fn put_scored(scored: Scored, answer: &mut [u64]) -> u8
     ensures { put result answer.new ≡ put_answer (Answers.scored scored) answer.old }
@@ -40,11 +40,19 @@ pub extern "C" fn vecq_raw_score(
         let op = Step.score slot (query_of query.now) in
         left result fields.now answer.new a ≡ left_by 1 op fields.now answer.old a }
 {
-    let Record::Fields(index) = words::record_beside(fields, answer, 1) else {
+    let Some(index) = words::record_beside(fields, answer, 1) else {
         return 13;
     };
-    let scored = score_slot::score(
-        index, codes, scales, keys, keyed, held, alive, codes2, scales2, slot, query,
-    );
+    let arrays = Lent {
+        codes,
+        scales,
+        keys,
+        keyed,
+        held,
+        alive,
+        codes2,
+        scales2,
+    };
+    let scored = score_slot::score(index, &arrays, slot, query);
     put_scored(scored, answer)
 }

@@ -3,21 +3,22 @@
 
 ghost use Rattle.std.specs.Prelude.{◌≡◌, min, length};
 ghost use Rattle.index.specs.Arrays.{lent};
+ghost use Rattle.index.specs.Verdict.{verdict};
 ghost use Rattle.index.specs.Step as Step;
 ghost use Rattle.index.specs.Step.{query_of};
 ghost use Rattle.index.specs.Answers.{hit_count, found, found_keyed, LaterKept};
 ghost use Rattle.words.specs.Put.{put, put_found};
 ghost use Rattle.words.specs.Exports.{found_in, word_count, answer_beside};
 
-use index::Found;
-use words::Record;
+use index::Lent;
+use refusal::Refusal;
 
-fn put_found(found: Found, answer: &mut [u64]) -> u8
-    ensures { put result answer.new ≡ put_found found answer.old }
+fn put_found(found: Result<usize, Refusal>, answer: &mut [u64]) -> u8
+    ensures { put result answer.new ≡ put_found (verdict found) answer.old }
 {
     match found {
-        Found::Hits(count) => answer_words::put_word(count as u64, answer),
-        Found::Refused(number) => number,
+        Ok(count) => answer_words::put_word(count as u64, answer),
+        Err(refusal) => u8::from(refusal),
     }
 }
 
@@ -46,12 +47,20 @@ pub extern "C" fn vecq_raw_search(
     ensures lists_kept { let m = hit_count (found_in result answer.new) in
         LaterKept m slots.old slots.new × LaterKept m scores.old scores.new }
 {
-    let Record::Fields(index) = words::record_beside(fields, answer, 1) else {
+    let Some(index) = words::record_beside(fields, answer, 1) else {
         return 13;
     };
-    let found = search::search(
-        index, codes, scales, keys, keyed, held, alive, codes2, scales2, query, k, slots, scores,
-    );
+    let arrays = Lent {
+        codes,
+        scales,
+        keys,
+        keyed,
+        held,
+        alive,
+        codes2,
+        scales2,
+    };
+    let found = search::search(index, &arrays, query, k, slots, scores);
     put_found(found, answer)
 }
 
@@ -80,12 +89,20 @@ pub extern "C" fn vecq_raw_search_keyed(
     ensures lists_kept { let m = hit_count (found_in result answer.new) in
         LaterKept m names.old names.new × LaterKept m scores.old scores.new }
 {
-    let Record::Fields(index) = words::record_beside(fields, answer, 1) else {
+    let Some(index) = words::record_beside(fields, answer, 1) else {
         return 13;
     };
-    let found_keyed = search_keyed::search_keyed(
-        index, codes, scales, keys, keyed, held, alive, codes2, scales2, query, k, names, scores,
-    );
+    let arrays = Lent {
+        codes,
+        scales,
+        keys,
+        keyed,
+        held,
+        alive,
+        codes2,
+        scales2,
+    };
+    let found_keyed = search_keyed::search_keyed(index, &arrays, query, k, names, scores);
     put_found(found_keyed, answer)
 }
 
@@ -115,11 +132,19 @@ pub extern "C" fn vecq_raw_search_cascade(
     ensures lists_kept { let m = hit_count (found_in result answer.new) in
         LaterKept m slots.old slots.new × LaterKept m scores.old scores.new }
 {
-    let Record::Fields(index) = words::record_beside(fields, answer, 1) else {
+    let Some(index) = words::record_beside(fields, answer, 1) else {
         return 13;
     };
-    let found_cascade = search_cascade::search_cascade(
-        index, codes, scales, keys, keyed, held, alive, codes2, scales2, query, k, r, slots, scores,
-    );
+    let arrays = Lent {
+        codes,
+        scales,
+        keys,
+        keyed,
+        held,
+        alive,
+        codes2,
+        scales2,
+    };
+    let found_cascade = search_cascade::search_cascade(index, &arrays, query, k, r, slots, scores);
     put_found(found_cascade, answer)
 }

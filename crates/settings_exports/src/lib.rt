@@ -7,7 +7,7 @@ ghost use Rattle.index.specs.Arrays.{lent};
 ghost use Rattle.index.specs.Step.{set_bits, enable};
 ghost use Rattle.words.specs.Exports.{left, left_by};
 
-use words::Record;
+use index::Lent;
 
 #[unsafe(no_mangle)]
 pub extern "C" fn vecq_raw_set_bits(
@@ -25,12 +25,20 @@ pub extern "C" fn vecq_raw_set_bits(
     ensures { let a = lent codes.now scales.now keys.now keyed.now held.now alive.now codes2.now scales2.now in
         left result fields.new [] a ≡ left_by 0 (set_bits bits) fields.old [] a }
 {
-    let Record::Fields(index) = words::record_in(fields) else {
+    let Some(index) = words::record_in(fields) else {
         return 13;
     };
-    let width_set = settings::set_bits(
-        index, codes, scales, keys, keyed, held, alive, codes2, scales2, bits,
-    );
+    let arrays = Lent {
+        codes,
+        scales,
+        keys,
+        keyed,
+        held,
+        alive,
+        codes2,
+        scales2,
+    };
+    let width_set = settings::set_bits(index, &arrays, bits);
     answer_words::put_made(width_set, fields)
 }
 
@@ -49,11 +57,19 @@ pub extern "C" fn vecq_raw_enable_cascade(
     ensures { let a = lent codes.now scales.now keys.now keyed.now held.now alive.now codes2.now scales2.now in
         left result fields.new [] a ≡ left_by 0 enable fields.old [] a }
 {
-    let Record::Fields(index) = words::record_in(fields) else {
+    let Some(index) = words::record_in(fields) else {
         return 13;
     };
-    let cascade_enabled = settings::enable_cascade(
-        index, codes, scales, keys, keyed, held, alive, codes2, scales2,
-    );
+    let arrays = Lent {
+        codes,
+        scales,
+        keys,
+        keyed,
+        held,
+        alive,
+        codes2,
+        scales2,
+    };
+    let cascade_enabled = settings::enable_cascade(index, &arrays);
     answer_words::put_made(cascade_enabled, fields)
 }

@@ -3,21 +3,22 @@
 
 ghost use Rattle.std.specs.Prelude.{◌≡◌, length};
 ghost use Rattle.index.specs.Arrays.{lent};
+ghost use Rattle.index.specs.Verdict.{verdict};
 ghost use Rattle.index.specs.Step as Step;
 ghost use Rattle.index.specs.Step.{file_length};
 ghost use Rattle.index.specs.Answers.{length_is, byte_count, wrote, LaterKept};
 ghost use Rattle.words.specs.Put.{put, put_answer};
 ghost use Rattle.words.specs.Exports.{left, left_by, written_in, word_count, answer_beside};
 
-use index::Written;
-use words::Record;
+use index::Lent;
+use refusal::Refusal;
 
-fn put_written(written: Written, answer: &mut [u64]) -> u8
-    ensures { put result answer.new ≡ put_answer (length_is written) answer.old }
+fn put_written(written: Result<usize, Refusal>, answer: &mut [u64]) -> u8
+    ensures { put result answer.new ≡ put_answer (length_is (verdict written)) answer.old }
 {
     match written {
-        Written::Bytes(count) => answer_words::put_word(count as u64, answer),
-        Written::Refused(number) => number,
+        Ok(count) => answer_words::put_word(count as u64, answer),
+        Err(refusal) => u8::from(refusal),
     }
 }
 
@@ -37,12 +38,11 @@ pub extern "C" fn vecq_raw_file_length(
     ensures { let a = lent codes.now scales.now keys.now keyed.now held.now alive.now codes2.now scales2.now in
         left result fields.now answer.new a ≡ left_by 1 file_length fields.now answer.old a }
 {
-    let Record::Fields(index) = words::record_beside(fields, answer, 1) else {
+    let Some(index) = words::record_beside(fields, answer, 1) else {
         return 13;
     };
-    let length = layout::file_length(
-        index, codes, scales, keys, keyed, held, alive, codes2, scales2,
-    );
+    let arrays = Lent { codes, scales, keys, keyed, held, alive, codes2, scales2 };
+    let length = layout::file_length(index, &arrays);
     put_written(length, answer)
 }
 
@@ -66,11 +66,10 @@ pub extern "C" fn vecq_raw_to_bytes(
     ensures answer_kept { LaterKept (word_count result) answer.old answer.new }
     ensures file_kept { LaterKept (byte_count (written_in result answer.new)) file.old file.new }
 {
-    let Record::Fields(index) = words::record_beside(fields, answer, 1) else {
+    let Some(index) = words::record_beside(fields, answer, 1) else {
         return 13;
     };
-    let written = write::to_bytes(
-        index, codes, scales, keys, keyed, held, alive, codes2, scales2, file,
-    );
+    let arrays = Lent { codes, scales, keys, keyed, held, alive, codes2, scales2 };
+    let written = write::to_bytes(index, &arrays, file);
     put_written(written, answer)
 }

@@ -1,3 +1,4 @@
+use Rattle.index.specs.Verdict.{verdict}
 use Rattle.words.proofs.Exports.{misfit-left, added-left}
 use Rattle.add_keyed_exports.proofs.vecq_raw_add_keyed.Goals as goal
 
@@ -6,4 +7,4 @@ returns-in_default c = misfit-left _ _ _ _ c.record_beside.ensures _ _ c.in_defa
 
 pub returns : goal.returns
 returns c =
-    added-left _ _ _ c.record_beside.ensures _ c.in-Fields.is _ _ _ c.add_keyed-added_keyed.result c.add_keyed-added_keyed.ensures _ _ _ c.put_added.ensures
+    added-left _ _ _ c.record_beside.ensures _ c.in-Some.is _ _ _ (verdict c.add_keyed-added_keyed.result) c.add_keyed-added_keyed.ensures _ _ _ c.put_added.ensures

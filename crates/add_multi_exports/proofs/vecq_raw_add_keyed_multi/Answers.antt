@@ -1,3 +1,4 @@
+use Rattle.index.specs.Verdict.{verdict}
 use Rattle.words.proofs.Exports.{misfit-left, added-left}
 use Rattle.add_multi_exports.proofs.vecq_raw_add_keyed_multi.Goals as goal
 
@@ -6,4 +7,4 @@ returns-in_default c = misfit-left _ _ _ _ c.record_beside.ensures _ _ c.in_defa
 
 pub returns : goal.returns
 returns c =
-    added-left _ _ _ c.record_beside.ensures _ c.in-Fields.is _ _ _ c.add_keyed_multi-added_multi.result c.add_keyed_multi-added_multi.ensures _ _ _ c.put_added.ensures
+    added-left _ _ _ c.record_beside.ensures _ c.in-Some.is _ _ _ (verdict c.add_keyed_multi-added_multi.result) c.add_keyed_multi-added_multi.ensures _ _ _ c.put_added.ensures

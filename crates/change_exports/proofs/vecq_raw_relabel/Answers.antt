@@ -1,3 +1,4 @@
+use Rattle.index.specs.Verdict.{verdict}
 use Rattle.words.proofs.Exports.{misfit-left, changed-left}
 use Rattle.change_exports.proofs.vecq_raw_relabel.Goals as goal
 
@@ -6,4 +7,4 @@ returns-in_default c = misfit-left _ _ _ _ c.record_beside.ensures _ _ c.in_defa
 
 pub returns : goal.returns
 returns c =
-    changed-left _ _ _ c.record_beside.ensures _ c.in-Fields.is _ _ _ c.relabel-relabelled.result c.relabel-relabelled.ensures _ _ _ c.put_changed.ensures
+    changed-left _ _ _ c.record_beside.ensures _ c.in-Some.is _ _ _ (verdict c.relabel-relabelled.result) c.relabel-relabelled.ensures _ _ _ c.put_changed.ensures

@@ -1,3 +1,4 @@
+use Rattle.index.specs.Verdict.{verdict}
 use Rattle.words.proofs.Exports.{misfit-left, told-left, asked-words}
 use Rattle.key_exports.proofs.vecq_raw_contains_key.Goals as goal
 
@@ -6,4 +7,4 @@ returns-in_default c = misfit-left _ _ _ _ c.record_beside.ensures _ _ c.in_defa
 
 pub returns : goal.returns
 returns c =
-    told-left _ _ _ _ c.record_beside.ensures _ c.in-Fields.is _ _ _ c.contains_key-contained.ensures (asked-words c.contains_key-contained.result) _ _ c.put_asked.ensures
+    told-left _ _ _ _ c.record_beside.ensures _ c.in-Some.is _ _ _ c.contains_key-contained.ensures (asked-words (verdict c.contains_key-contained.result)) _ _ c.put_asked.ensures

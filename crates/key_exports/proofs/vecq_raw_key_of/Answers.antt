@@ -1,3 +1,4 @@
+use Rattle.index.specs.Verdict.{verdict}
 use Rattle.words.proofs.Exports.{misfit-left, told-left, keyed-words}
 use Rattle.key_exports.proofs.vecq_raw_key_of.Goals as goal
 
@@ -6,4 +7,4 @@ returns-in_default c = misfit-left _ _ _ _ c.record_beside.ensures _ _ c.in_defa
 
 pub returns : goal.returns
 returns c =
-    told-left _ _ _ _ c.record_beside.ensures _ c.in-Fields.is _ _ _ c.key_of-keyed_as.ensures (keyed-words c.key_of-keyed_as.result) _ _ c.put_keyed.ensures
+    told-left _ _ _ _ c.record_beside.ensures _ c.in-Some.is _ _ _ c.key_of-keyed_as.ensures (keyed-words (verdict c.key_of-keyed_as.result)) _ _ c.put_keyed.ensures

@@ -1,3 +1,4 @@
+use Rattle.index.specs.Verdict.{verdict}
 use Rattle.words.proofs.Exports.{misfit-left, told-left, held-words}
 use Rattle.key_exports.proofs.vecq_raw_slot_at.Goals as goal
 
@@ -6,4 +7,4 @@ returns-in_default c = misfit-left _ _ _ _ c.record_beside.ensures _ _ c.in_defa
 
 pub returns : goal.returns
 returns c =
-    told-left _ _ _ _ c.record_beside.ensures _ c.in-Fields.is _ _ _ c.slot_at-held_at.ensures (held-words c.slot_at-held_at.result) _ _ c.put_held.ensures
+    told-left _ _ _ _ c.record_beside.ensures _ c.in-Some.is _ _ _ c.slot_at-held_at.ensures (held-words (verdict c.slot_at-held_at.result)) _ _ c.put_held.ensures

@@ -6,4 +6,4 @@ returns-in_default c = misfit-left _ _ _ _ c.record_beside.ensures _ _ c.in_defa
 
 pub returns : goal.returns
 returns c =
-    told-left _ _ _ _ c.record_beside.ensures _ c.in-Fields.is _ _ _ c.score-scored.ensures (scored-words c.score-scored.result) _ _ c.put_scored.ensures
+    told-left _ _ _ _ c.record_beside.ensures _ c.in-Some.is _ _ _ c.score-scored.ensures (scored-words c.score-scored.result) _ _ c.put_scored.ensures

@@ -1,3 +1,4 @@
+use Rattle.index.specs.Verdict.{verdict}
 use Rattle.words.proofs.Exports.{unread-left, made-left}
 use Rattle.settings_exports.proofs.vecq_raw_enable_cascade.Goals as goal
 
@@ -6,4 +7,4 @@ returns-in_default c = unread-left _ _ c.record_in.ensures _ _ c.in_default.is
 
 pub returns : goal.returns
 returns c =
-    made-left _ _ c.record_in.ensures _ _ _ c.in-Fields.is _ c.enable_cascade-cascade_enabled.result c.enable_cascade-cascade_enabled.ensures _ _ c.put_made.ensures
+    made-left _ _ c.record_in.ensures _ _ _ c.in-Some.is _ (verdict c.enable_cascade-cascade_enabled.result) c.enable_cascade-cascade_enabled.ensures _ _ c.put_made.ensures
