@@ -1,5 +1,5 @@
 use Rattle.kernels.proofs.Wide.{four-start, four-again, four-end}
-use Rattle.kernels.proofs.wide_lanes.Goals as goal
+use Rattle.kernels.proofs.Block.wide_lanes.Goals as goal
 
 pub loop-i-init : goal.loop-i-init
 loop-i-init c = four-start _ _ _ _

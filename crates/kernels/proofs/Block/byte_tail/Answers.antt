@@ -1,5 +1,5 @@
 use Rattle.kernels.proofs.Bytes.{tail-start, tail-again, tail-end}
-use Rattle.kernels.proofs.byte_tail.Goals as goal
+use Rattle.kernels.proofs.Block.byte_tail.Goals as goal
 
 pub loop-i-init : goal.loop-i-init
 loop-i-init c = tail-start _ _ _
