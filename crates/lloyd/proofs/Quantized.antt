@@ -45,7 +45,6 @@ rest-not-below (b ∷ bs) x (suc i) f =
 
 -- of two entries of a table that rises the earlier is below the later
 earlier-below : (bs : List Float) → Rises bs → (i j : ℕ) → i < j → j < length bs → lt (get_or bs i nan) (get_or bs j nan) ≡ true
-unfolding Rises
 earlier-below bs R i zero h l = absurd (not-suc-le-zero h)
 earlier-below bs R i (suc j) h l =
     let step : lt (get_or bs j nan) (get_or bs (suc j) nan) ≡ true = rw add-one at (R j (omega arith)) in

@@ -1,7 +1,7 @@
 use Rattle.lloyd.proofs.Quantized.{Between}
-use Rattle.quantizer.proofs.halving_from.Given as goal
+use Rattle.quantizer.proofs.halving.Given as goal
 
--- `quantizer::halving_from` meets its contract: x's code lies between `code` and `code + left`, and each comparison halves that.
+-- `quantizer::halving` meets its contract: x's code lies between `code` and `code + left`, and each comparison halves that.
 abbrev pub invariant-loop-left : goal.invariant-loop-left
 invariant-loop-left l = Between l.boundaries l.x l.code l.left
 

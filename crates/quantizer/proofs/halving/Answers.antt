@@ -1,6 +1,6 @@
 use native.Mathlib.Omega.{arith}
 use Rattle.lloyd.proofs.Quantized.{quantized-le, halved}
-use Rattle.quantizer.proofs.halving_from.Goals as goal
+use Rattle.quantizer.proofs.halving.Goals as goal
 
 pub loop-left-init : goal.loop-left-init
 loop-left-init c =
