@@ -1,12 +1,14 @@
-// The versions of the byte form: what each has, and which one an index is written as. No other crate compares version numbers.
+// The versions of the byte form: what each has, how long its blocks are, and which version an index is written as. No other crate compares version numbers.
 #![tactic(auto)]
 
 ghost use Rattle.std.specs.Prelude.{◌≡◌, List};
 ghost use Rattle.index.specs.State.{header_of};
-ghost use Rattle.index.specs.Form.{form_of};
+ghost use Rattle.index.specs.Form.{form_of, stages_at, stage_size, table_size};
 ghost use Rattle.index.specs.File.{Entry, version_of};
 
 use index::{Form, Index};
+
+// ---- versions
 
 // What a version has.
 #[tactic(auto, unfolding(index::specs::Form::form_of))]
@@ -33,4 +35,27 @@ pub fn version_of(index: Index) -> u16
         (_, 4) => 259,
         _ => 261,
     }
+}
+
+// ---- lengths. The types of the counts are narrow enough that no length can overflow.
+
+// How long the head is: one byte more with a width byte.
+pub fn stages_at(form: Form) -> usize
+    ensures { result ≡ stages_at form }
+{
+    24 + usize::from(form.width)
+}
+
+// How many bytes the scales and the codes of one stage take: n slots, blocks of so many bytes.
+pub fn stage_size(form: Form, block: u16, n: u32) -> usize
+    ensures { result ≡ stage_size form block n }
+{
+    n as usize * form.scale as usize + n as usize * block as usize
+}
+
+// How many bytes a table of k key entries takes.
+pub fn table_size(form: Form, k: u32) -> usize
+    ensures { result ≡ table_size form k }
+{
+    if form.keys { 4 + k as usize * 12 } else { 0 }
 }

@@ -2,7 +2,6 @@
 #![tactic(auto)]
 
 ghost use Rattle.std.specs.Prelude.{◌≡◌};
-ghost use Rattle.index.specs.Form.{stages_at};
 ghost use Rattle.index.specs.Read.{version_in, form_in, dim_in, working_field, header_in, stages_in, head_fault};
 ghost use Rattle.header.specs.Head.{head_of};
 
@@ -83,18 +82,12 @@ pub fn head_in(file: &[u8]) -> Head
     }
 }
 
-// How long the head is: one byte more with a width byte.
-fn head_length(form: Form) -> usize
-    ensures { result ≡ stages_at form }
-{
-    24 + usize::from(form.width)
-}
-
 // What follows the head.
 pub fn stages_in(file: &[u8]) -> &[u8]
     ensures { result.now ≡ stages_in file.now }
 {
-    after(file, head_length(form_in(file)))
+    let form = form_in(file);
+    after(file, form::stages_at(form))
 }
 
 // ---- tests
@@ -117,7 +110,7 @@ pub fn head_fault(file: &[u8]) -> u8
     if dim_in(file) < working_field(file) {
         return 17;
     }
-    if file.len() < head_length(form) {
+    if file.len() < form::stages_at(form) {
         return 14;
     }
     if !(4..=6).contains(&header_in(file).bits) {
