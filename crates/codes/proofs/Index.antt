@@ -1,11 +1,8 @@
--- Where code i begins, counted without a product that could overflow: eight codes take w bytes. Small powers, and tests that say the same.
-use mathlib.Core.Path.{◌≡◌, refl, sym, ap, ◌∙◌}
-use mathlib.Core.Bool.{Bool, true, false}
+-- Where code i begins, counted without a product that could overflow: eight codes take w bytes. Small powers.
+use mathlib.Core.Path.{◌≡◌, ap, ◌∙◌}
 use Prim.Native.Nat.{ℕ, ◌+◌, ◌*◌, ◌/◌, ◌%◌, ◌^◌, ◌<◌, ◌≤◌}
-use native.Mathlib.Nat.{div-add-mod, mul-le-mul_left, mod-lt, lt_of_lt_of_le, lt_of_not-le, not-le_of_lt}
+use native.Mathlib.Nat.{div-add-mod, mul-le-mul_left, mod-lt, lt_of_lt_of_le, mod-eq_of_lt, one-mul}
 use native.Mathlib.Omega.{arith}
-use borrow.Author.Tests.{leb-true, leb-false, le-leb, lt-leb}
-use lib.Dec.{leb}
 use lib.Pow.{pow_pos, pow_mono}
 
 pub record Eights (w i : ℕ) : Type 0 where
@@ -27,10 +24,6 @@ power_le k h = pow_mono {i = k} {j = 8} h
 pub cut-lt : (x k : ℕ) → k ≤ 8 → x % 2 ^ k < 256
 cut-lt x k h = lt_of_lt_of_le (mod-lt x (pow_pos k)) (power_le k h)
 
--- two tests of the same fact
-pub leb-same : (a b c d : ℕ) → (a ≤ b → c ≤ d) → (c ≤ d → a ≤ b) → leb a b ≡ leb c d
-leb-same a b c d f g = go (leb a b) refl
-  where
-    go : (t : Bool) → leb a b ≡ t → leb a b ≡ leb c d
-    go true e = e ∙ sym (le-leb c d (f (leb-true a b e)))
-    go false e = e ∙ sym (lt-leb c d (lt_of_not-le (λ h. not-le_of_lt (leb-false a b e) (g h))))
+-- 1 shifted by k places, in 16 bits
+pub shifted : (k : ℕ) → k ≤ 8 → 1 * 2 ^ k % 65536 ≡ 2 ^ k
+shifted k h = mod-eq_of_lt (omega (arith, power_le k h)) ∙ one-mul (2 ^ k)

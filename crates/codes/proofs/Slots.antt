@@ -1,15 +1,12 @@
 -- The block of a slot, where the array has it whole.
 use mathlib.Core.Path.{◌≡◌, ap, ◌∙◌}
 use mathlib.Core.List.{List}
-use Prim.Native.Nat.{ℕ, suc, ◌+◌, ◌*◌, ◌/◌, ◌<◌, ◌≤◌}
-use native.Mathlib.Nat.{le-div_iff_mul-le}
+use Prim.Native.Nat.{ℕ, ◌+◌, ◌*◌, ◌≤◌}
 use native.Mathlib.Omega.{arith}
 use borrow.Author.Tests.{le-leb}
-use lib.Dec.{ltb, leb}
 use lib.ListN.{length, take, drop, length-drop}
 use lib.Seq.{length-take-le}
 use Rattle.codes.specs.Slots.{block_at}
-use Rattle.codes.proofs.Index.{leb-same}
 
 pub block-there : (bytes slot : ℕ) (xs : List ℕ) → slot * bytes + bytes ≤ length xs → block_at bytes slot xs ≡ take bytes (drop (slot * bytes) xs)
 unfolding block_at
@@ -18,9 +15,3 @@ block-there bytes slot xs h = rw (le-leb (slot * bytes + bytes) (length xs) h)
 pub length-block : (bytes slot : ℕ) (xs : List ℕ) → slot * bytes + bytes ≤ length xs → length (block_at bytes slot xs) ≡ bytes
 length-block bytes slot xs h =
     ap length (block-there bytes slot xs h) ∙ length-take-le bytes (drop (slot * bytes) xs) (omega (arith, length-drop (slot * bytes) xs))
-
--- the same test by division, which cannot overflow
-pub leb-block : (n slot bytes : ℕ) → 0 < bytes → ltb slot (n / bytes) ≡ leb (slot * bytes + bytes) n
-leb-block n slot bytes pos =
-    let iff = le-div_iff_mul-le {k = bytes} {x = suc slot} {y = n} pos in
-    leb-same (suc slot) (n / bytes) (slot * bytes + bytes) n (λ h. omega (arith, iff.0 h)) (λ h. iff.1 (omega arith))

@@ -2,22 +2,19 @@
 use mathlib.Core.Path.{◌≡◌, sym, ◌∙◌}
 use mathlib.Core.List.{List}
 use mathlib.Core.Bool.{Bool, true, false, ◌&&◌}
-use Prim.Native.Nat.{ℕ, ◌^◌, ◌<◌, ◌≤◌}
+use Prim.Native.Nat.{ℕ, ◌^◌}
 use borrow.Author.Tests.{ltb-true, leb-true, eqb-true, lt-ltb, le-leb, eq-eqb}
 use lib.Dec.{ltb, leb, eqb}
 use lib.Pow.{pow_pos}
 use lib.ListN.{length}
-use Rattle.digits.specs.Digits.{Below, digits_below}
+use Rattle.digits.specs.Digits.{digits_below}
 use Rattle.lists.proofs.Tests.{both}
 use Rattle.digits.proofs.Below.{below_true, below-yes}
 use Rattle.codes.specs.Packing.{bytes_per_vector, packed}
 use Rattle.codes.specs.Writing.{is_width, at_width, packable, repacked}
+pub use Rattle.codes.specs.Writing.{Width, Packable}
 
 -- ---- a width
-
-pub record Width (w : ℕ) : Type 0 where
-  pub some : 0 < w
-  pub most : w ≤ 8
 
 pub is-width : {w : ℕ} → Width w → is_width w ≡ true
 unfolding is_width
@@ -41,11 +38,6 @@ pub a-width : {r : Bool} (w : ℕ) → r ≡ is_width w → r ≡ true → Width
 a-width w e h = width_of w (sym e ∙ h)
 
 -- ---- the codes of a vector
-
-pub record Packable (w : ℕ) (codes : List ℕ) (bytes : ℕ) : Type 0 where
-  pub width : Width w
-  pub size : bytes ≡ bytes_per_vector w (length codes)
-  pub fit : Below (2 ^ w) codes
 
 pub packable-of : (w : ℕ) (codes : List ℕ) (bytes : ℕ) → packable w codes bytes ≡ true → Packable w codes bytes
 unfolding packable

@@ -10,18 +10,7 @@ ghost use Rattle.codes.specs.Slots.{block_at};
 pub fn is_width(bits: u8) -> bool
     ensures { result ≡ is_width bits }
 {
-    if bits == 0 {
-        return false;
-    }
-    bits <= 8
-}
-
-// 2 to the power k.
-fn power(k: u8) -> u16
-    requires { k ≤ 8 }
-    ensures { result ≡ 2 ^ k }
-{
-    1u16 << k
+    bits != 0 && bits <= 8
 }
 
 // How many bytes the codes of one vector take; 0 at any other width. Eight codes take `bits` bytes: counted so, no product
@@ -33,7 +22,7 @@ pub fn bytes_per_vector(padded: usize, bits: u8) -> usize
         return 0;
     }
     let w = bits as usize;
-    padded / 8 * w + (padded % 8 * w + 7) / 8
+    padded / 8 * w + (padded % 8 * w).div_ceil(8)
 }
 
 // The byte in which code i begins.
@@ -57,14 +46,11 @@ fn first_bit(i: usize, bits: u8) -> u8
 fn window(block: &[u8], b: usize) -> u16
     ensures { result ≡ get_or block.now b 0 + 256 * get_or block.now (b + 1) 0 }
 {
-    if block.len() <= b {
-        return 0;
+    match block.get(b..) {
+        Some([low, high, ..]) => u16::from_le_bytes([*low, *high]),
+        Some([low]) => u16::from(*low),
+        _ => 0,
     }
-    let low = block[b] as u16;
-    if block.len() <= b + 1 {
-        return low;
-    }
-    low + 256 * (block[b + 1] as u16)
 }
 
 // Code i of a block; 0 past the block's end and at any other width.
@@ -75,17 +61,14 @@ pub fn unpack_code(block: &[u8], i: usize, bits: u8) -> u8
         return 0;
     }
     let from = window(block, first_byte(i, bits)) >> first_bit(i, bits);
-    (from % power(bits)) as u8
+    (from % (1 << bits)) as u8
 }
 
 // Whether an array of n bytes has the block of a slot whole.
 fn has_block(n: usize, slot: usize, bytes: usize) -> bool
     ensures { result ≡ leb (slot * bytes + bytes) n }
 {
-    if bytes == 0 {
-        return true;
-    }
-    slot < n / bytes
+    bytes == 0 || slot < n / bytes
 }
 
 // The block of a slot, uncopied; an empty part where the array does not have it whole.

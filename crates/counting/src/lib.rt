@@ -16,11 +16,5 @@ pub fn above(b: f32, x: f32, n: usize) -> usize
 pub fn quantize_in(boundaries: &[f32], x: f32) -> usize
     ensures { result ≡ quantized boundaries.now x }
 {
-    let mut code = 0;
-    let mut i = 0;
-    while i < boundaries.len() {
-        code += above(boundaries[i], x, 1);
-        i += 1;
-    }
-    code
+    boundaries.iter().filter(|b| x > **b).count()
 }

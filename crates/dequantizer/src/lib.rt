@@ -9,11 +9,7 @@ ghost use Rattle.lloyd.specs.Quantizer.{centroid_at};
 pub fn dequantize_in(centroids: &[f32], code: usize) -> f32
     ensures { result ≡ centroid_at centroids.now code }
 {
-    if code < centroids.len() {
-        centroids[code]
-    } else {
-        0.0
-    }
+    centroids.get(code).copied().unwrap_or(0.0)
 }
 
 // The centroid of a code at a width, and +0 where there is none.

@@ -1,43 +1,23 @@
-// The versions of the byte form: what each has, and which one an index is written as. No other crate compares version numbers.
+// The versions of the byte form: what each has, how long its blocks are, and which version an index is written as. No other crate compares version numbers.
 #![tactic(auto)]
 
 ghost use Rattle.std.specs.Prelude.{◌≡◌, List};
 ghost use Rattle.index.specs.State.{header_of};
-ghost use Rattle.index.specs.Form.{form_of};
+ghost use Rattle.index.specs.Form.{form_of, stages_at, stage_size, table_size};
 ghost use Rattle.index.specs.File.{Entry, version_of};
 
 use index::{Form, Index};
 
-// Whether the version is read.
-fn is_known(version: u16) -> bool
-    ensures { result ≡ (form_of version).known }
-{
-    if version == 1 {
-        return true;
-    }
-    if version < 257 {
-        return false;
-    }
-    version <= 261
-}
-
-// How many bytes a scale takes: version 1 alone has binary32 scales.
-fn scale_size(version: u16) -> u8
-    ensures { result ≡ (form_of version).scale }
-{
-    if version == 1 {
-        return 4;
-    }
-    2
-}
+// ---- versions
 
 // What a version has.
+#[tactic(auto, unfolding(index::specs::Form::form_of))]
 pub fn form_of(version: u16) -> Form
     ensures { result ≡ form_of version }
 {
     Form {
-        known: is_known(version),
-        scale: scale_size(version),
+        known: version == 1 || (257..=261).contains(&version),
+        scale: if version == 1 { 4 } else { 2 },
         width: version == 261,
         second: version == 260,
         keys: 259 <= version,
@@ -46,14 +26,36 @@ pub fn form_of(version: u16) -> Form
 }
 
 // The version that an index is written as, whatever its slots hold.
+#[tactic(auto, unfolding(index::specs::File::version_of))]
 pub fn version_of(index: Index) -> u16
     ensures { (es : List Entry) → result ≡ version_of (header_of index) es }
 {
-    if index.residual {
-        return 260;
+    match (index.residual, index.bits) {
+        (true, _) => 260,
+        (_, 4) => 259,
+        _ => 261,
     }
-    if index.bits == 4 {
-        return 259;
-    }
-    261
+}
+
+// ---- lengths. The types of the counts are narrow enough that no length can overflow.
+
+// How long the head is: one byte more with a width byte.
+pub fn stages_at(form: Form) -> usize
+    ensures { result ≡ stages_at form }
+{
+    24 + usize::from(form.width)
+}
+
+// How many bytes the scales and the codes of one stage take: n slots, blocks of so many bytes.
+pub fn stage_size(form: Form, block: u16, n: u32) -> usize
+    ensures { result ≡ stage_size form block n }
+{
+    n as usize * form.scale as usize + n as usize * block as usize
+}
+
+// How many bytes a table of k key entries takes.
+pub fn table_size(form: Form, k: u32) -> usize
+    ensures { result ≡ table_size form k }
+{
+    if form.keys { 4 + k as usize * 12 } else { 0 }
 }

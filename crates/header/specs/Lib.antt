@@ -1,2 +1,2 @@
--- Names for parts of the head's tests.
+-- What the head of a file states.
 pub mod Head

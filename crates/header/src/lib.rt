@@ -2,9 +2,8 @@
 #![tactic(auto)]
 
 ghost use Rattle.std.specs.Prelude.{◌≡◌};
-ghost use Rattle.index.specs.Form.{stages_at};
-ghost use Rattle.index.specs.Read.{version_in, form_in, dim_in, count_in, working_field, header_in, stages_in, head_fault};
-ghost use Rattle.header.specs.Head.{head_of, width_of};
+ghost use Rattle.index.specs.Read.{version_in, form_in, dim_in, working_field, header_in, stages_in, head_fault};
+ghost use Rattle.header.specs.Head.{head_of};
 
 use encode::Header;
 use index::Form;
@@ -33,13 +32,6 @@ fn form_in(file: &[u8]) -> Form
     form::form_of(version_in(file))
 }
 
-// How many slots the file has.
-fn count_in(file: &[u8]) -> u32
-    ensures { result ≡ count_in file.now }
-{
-    rd_u32(after(file, 20))
-}
-
 fn dim_in(file: &[u8]) -> u32
     ensures { result ≡ dim_in file.now }
 {
@@ -51,40 +43,32 @@ fn working_field(file: &[u8]) -> u32
     ensures { result ≡ working_field file.now }
 {
     if form_in(file).working {
-        return rd_u16(after(file, 6)) as u32;
+        u32::from(rd_u16(after(file, 6)))
+    } else {
+        0
     }
-    0
-}
-
-fn working_in(file: &[u8]) -> u32
-    ensures { result ≡ (header_in file.now).working_dim }
-{
-    let working = working_field(file);
-    if working == 0 {
-        return dim_in(file);
-    }
-    working
-}
-
-fn width_in(file: &[u8]) -> u8
-    ensures { result ≡ (header_in file.now).bits }
-{
-    if form_in(file).width {
-        return rd_u8(after(file, 24));
-    }
-    4
 }
 
 // The header that the file states.
+#[tactic(auto, unfolding(index::specs::Read::header_in))]
 fn header_in(file: &[u8]) -> Header
     ensures { result ≡ header_in file.now }
 {
+    let form = form_in(file);
+    let dim = dim_in(file) as usize;
     Header {
-        dim: dim_in(file) as usize,
-        working_dim: working_in(file) as usize,
+        dim,
+        working_dim: match working_field(file) {
+            0 => dim,
+            working => working as usize,
+        },
         seed: rd_u64(after(file, 12)),
-        bits: width_in(file),
-        residual: form_in(file).second,
+        bits: if form.width {
+            rd_u8(after(file, 24))
+        } else {
+            4
+        },
+        residual: form.second,
     }
 }
 
@@ -94,39 +78,22 @@ pub fn head_in(file: &[u8]) -> Head
     Head {
         version: version_in(file),
         header: header_in(file),
-        count: count_in(file),
+        count: rd_u32(after(file, 20)),
     }
-}
-
-// How long the head is: one byte more with a width byte.
-fn head_length(form: Form) -> usize
-    ensures { result ≡ stages_at form }
-{
-    if form.width {
-        return 25;
-    }
-    24
 }
 
 // What follows the head.
 pub fn stages_in(file: &[u8]) -> &[u8]
     ensures { result.now ≡ stages_in file.now }
 {
-    after(file, head_length(form_in(file)))
+    let form = form_in(file);
+    after(file, form::stages_at(form))
 }
 
 // ---- tests
 
-fn is_width(width: u8) -> bool
-    ensures { result ≡ width_of width }
-{
-    if width < 4 {
-        return false;
-    }
-    width <= 6
-}
-
 // The refusal that the head gives, 14 to 18; 0 for none.
+#[tactic(auto, unfolding(index::specs::Step::first_of, index::specs::Read::head_fault, index::specs::Read::little_endian))]
 pub fn head_fault(file: &[u8]) -> u8
     ensures { result ≡ head_fault file.now }
 {
@@ -143,11 +110,11 @@ pub fn head_fault(file: &[u8]) -> u8
     if dim_in(file) < working_field(file) {
         return 17;
     }
-    if file.len() < head_length(form) {
+    if file.len() < form::stages_at(form) {
         return 14;
     }
-    if is_width(width_in(file)) {
-        return 0;
+    if !(4..=6).contains(&header_in(file).bits) {
+        return 18;
     }
-    18
+    0
 }

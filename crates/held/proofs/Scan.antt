@@ -1,78 +1,52 @@
--- The numbers below n that pass a test, as a loop that counts up meets them, and as the first n places of the arrays give them.
-use mathlib.Core.Path.{◌≡◌, sym, ap, ◌∙◌}
-use mathlib.Core.Bool.{Bool, true, false}
-use mathlib.Core.Logic.{⊎_elim}
-use mathlib.Core.List.{List, [], ◌∷◌, ◌++◌}
-use Prim.Native.Nat.{ℕ, zero, suc, ◌+◌, min, ◌≤◌, ◌<◌}
-use native.Mathlib.Nat.{eq-or-lt_of_le, le_of_suc-le-suc, le_antisymm}
+-- The numbers below n that pass a test, as the library's method finds them, and as the first n places of the arrays give them.
+use mathlib.Core.Path.{◌≡◌, refl, sym, ap, ◌∙◌}
+use mathlib.Core.Bool.{Bool, true, false, cond}
+use mathlib.Core.List.{List, [], ◌∷◌}
+use Prim.Native.Nat.{ℕ, ◌+◌, min, ◌≤◌, ◌<◌}
 use native.Mathlib.Numerals.{add-one}
 use native.Mathlib.Omega.{arith}
 use native.Mathlib.Decide.{dec_lt}
 use lib.ListN.{length, get_or, take, get_or-eq_default}
 use lib.Seq.{get_or-take}
+use Rattle.std.specs.Prelude.{find, unwrap_or, Some}
+use Rattle.std.specs.List.{range_with_len}
+use Rattle.std.proofs.lemmas.List.FromFn.{length-range_with_len, get_or-range_with_len}
+use Rattle.lists.specs.Lists.{below}
 use Rattle.lists.specs.Keep.{bit, keep, count}
 use Rattle.lists.proofs.Laws.{length-tab}
-use Rattle.lists.proofs.Keep.{count-append, count-length, count_same, keep_append, keep_same}
-use Rattle.lists.proofs.Front.{each-tab, keep-past, count_past}
+use Rattle.lists.proofs.Keep.{count-append, count-length, count_same, keep_same}
+use Rattle.lists.proofs.Front.{each-tab, tab-is, keep-past, count_past}
 use Rattle.slot_keys.specs.Has.{slot_has}
 use Rattle.held.specs.Held.{held_count, slot_holds, held_slot}
-use Rattle.lists.specs.Lists.{below}
 
-module _ (p : ℕ → Bool) where
-  count-more : (i : ℕ) → count p (below (i + 1)) ≡ count p (below i) + bit (p i)
-  count-more i = rw (add-one i) (omega (arith, count-append p (below i) (i ∷ [])))
+-- ---- the library's method
 
-  pub count_yes : (i : ℕ) → p i ≡ true → count p (below (i + 1)) ≡ count p (below i) + 1
-  count_yes i e = omega (arith, count-more i, ap bit e)
+module _ {X : Type 0} (p : X → Bool) where
+  found : (xs : List X) (d : X) → unwrap_or (find p xs) d ≡ get_or (keep p xs) 0 d
+  found [] d = refl
+  found (x ∷ xs) d = go (p x) (found xs d)
+    where
+      go : (b : Bool) → unwrap_or (find p xs) d ≡ get_or (keep p xs) 0 d → unwrap_or (cond b (Some x) (find p xs)) d ≡ get_or (cond b (x ∷ keep p xs) (keep p xs)) 0 d
+      go true e = refl
+      go false e = e
 
-  pub count_no : (i : ℕ) → p i ≡ false → count p (below (i + 1)) ≡ count p (below i)
-  count_no i e = omega (arith, count-more i, ap bit e)
+range-below : (n : ℕ) → range_with_len 0 n ≡ below n
+range-below n =
+    sym (tab-is (λ i. i) (range_with_len 0 n) (λ i d l. omega (arith, get_or-range_with_len 0 n i d (rw (length-range_with_len 0 n) at l))))
+    ∙ ap below (length-range_with_len 0 n)
 
-  pub count-few : (n : ℕ) → count p (below n) ≤ n
-  count-few n = omega (arith, count-length p (below n), length-tab (λ (i : ℕ). i) n)
+module _ (p : ℕ → Bool) (n : ℕ) where
+  find-below : (d : ℕ) → unwrap_or (find p (range_with_len 0 n)) d ≡ get_or (keep p (below n)) 0 d
+  find-below d = rw (range-below n) (found p (below n) d)
 
-  pub none_more : (i : ℕ) → keep p (below i) ≡ [] → p i ≡ false → keep p (below (i + 1)) ≡ []
-  none_more i e f = rw (add-one i, keep_append p (below i) (i ∷ []), e, f)
+-- ---- one number more
 
-  -- the first that passes stands first among those that do
-  pub first-kept : (i n : ℕ) → i < n → keep p (below i) ≡ [] → p i ≡ true → (rest : List ℕ) × (keep p (below n) ≡ i ∷ rest)
-  first-kept i zero l e f = absurd (omega arith)
-  first-kept i (suc n) l e f =
-      ⊎_elim
-      (λ (d : i ≡ n). ([], keep_append p (below n) (n ∷ []) ∙ rw (sym d, e, f)))
-      (λ (m : i < n). let r = first-kept i n m e f in (r.0 ++ keep p (n ∷ []), keep_append p (below n) (n ∷ []) ∙ rw r.1))
-      (eq-or-lt_of_le (le_of_suc-le-suc l))
+module _ (p : ℕ → Bool) (i : ℕ) where
+  pub count-more : count p (below (i + 1)) ≡ count p (below i) + bit (p i)
+  count-more = rw (add-one i) (omega (arith, count-append p (below i) (i ∷ [])))
 
-  pub first-is : (i n : ℕ) → i < n → keep p (below i) ≡ [] → p i ≡ true → get_or (keep p (below n)) 0 n ≡ i
-  first-is i n l e f = rw (first-kept i n l e f).1
-
-  pub none_is : (i n : ℕ) → i ≤ n → n ≤ i → keep p (below i) ≡ [] → get_or (keep p (below n)) 0 n ≡ n
-  none_is i n l m e = rw (rw (le_antisymm l m) at e)
-
--- ---- past the end of `keyed` no slot has a key
-
-module _ (keys : List ℕ) (keyed : List Bool) (key i n : ℕ) (end : length keyed ≤ i) (l : i ≤ n) where
-  past-has : (j : ℕ) → i ≤ j → slot_has keys keyed key j ≡ false
-  past-has j m =
-      let beyond : length keyed ≤ j = omega (arith, end, m) in
-      rw (get_or-eq_default keyed false beyond)
-
-  count-end : held_count keys keyed i key ≡ held_count keys keyed n key
-  count-end = sym (count_past (slot_has keys keyed key) i past-has n l)
-
-  module _ (held : List ℕ) (position : ℕ) where
-    past-holds : (j : ℕ) → i ≤ j → slot_holds keys keyed held key position j ≡ false
-    past-holds j m = rw (past-has j m)
-
-    pub slot-end : keep (slot_holds keys keyed held key position) (below i) ≡ [] → n ≡ held_slot keys keyed held n key position
-    slot-end e = sym (ap (λ (is : List ℕ). get_or is 0 n) (keep-past (slot_holds keys keyed held key position) i past-holds n l ∙ e))
-
-pub count-within : (keys : List ℕ) (keyed : List Bool) (key n end : ℕ) → end ≡ min n (length keyed) → held_count keys keyed end key ≡ held_count keys keyed n key
-count-within keys keyed key n end e =
-    elim (dec_lt (length keyed) n) [
-      | yes l ↦ count-end keys keyed key end n (omega (arith, e, l)) (omega (arith, e, l))
-      | no l ↦ let same : end ≡ n = omega (arith, e, l) in ap (λ (m : ℕ). held_count keys keyed m key) same
-    ]
+  pub count-few : count p (below i) ≤ i
+  count-few = omega (arith, count-length p (below i), length-tab {A = ℕ} (λ k. k) i)
 
 -- ---- two tests that agree below n
 
@@ -80,14 +54,46 @@ module _ (keys : List ℕ) (keyed : List Bool) (n key : ℕ) where
   front-has : (i : ℕ) → i < n → slot_has (take n keys) (take n keyed) key i ≡ slot_has keys keyed key i
   front-has i l = rw (get_or-take n keyed i false l, get_or-take n keys i 0 l)
 
-  pub front-count : held_count (take n keys) (take n keyed) n key ≡ held_count keys keyed n key
+  front-count : held_count (take n keys) (take n keyed) n key ≡ held_count keys keyed n key
   front-count = count_same _ _ (below n) (each-tab (λ i. slot_has (take n keys) (take n keyed) key i ≡ slot_has keys keyed key i) (λ i. i) n front-has)
 
   module _ (held : List ℕ) (position : ℕ) where
     front-holds : (i : ℕ) → i < n → slot_holds (take n keys) (take n keyed) (take n held) key position i ≡ slot_holds keys keyed held key position i
     front-holds i l = rw (get_or-take n keyed i false l, get_or-take n keys i 0 l, get_or-take n held i 0 l)
 
-    pub front-slot : held_slot (take n keys) (take n keyed) (take n held) n key position ≡ held_slot keys keyed held n key position
-    front-slot =
-        ap (λ (is : List ℕ). get_or is 0 n)
-        (keep_same _ _ (below n) (each-tab (λ i. slot_holds (take n keys) (take n keyed) (take n held) key position i ≡ slot_holds keys keyed held key position i) (λ i. i) n front-holds))
+    front-kept : keep (slot_holds (take n keys) (take n keyed) (take n held) key position) (below n) ≡ keep (slot_holds keys keyed held key position) (below n)
+    front-kept =
+        keep_same _ _ (below n) (each-tab (λ i. slot_holds (take n keys) (take n keyed) (take n held) key position i ≡ slot_holds keys keyed held key position i) (λ i. i) n front-holds)
+
+-- ---- past the end of `keyed` no slot has a key
+
+module _ (keys : List ℕ) (keyed : List Bool) (key n end : ℕ) (e : end ≡ min n (length keyed)) where
+  past-has : end < n → (j : ℕ) → end ≤ j → slot_has keys keyed key j ≡ false
+  past-has l j m =
+      let beyond : length keyed ≤ j = omega (arith, e, l, m) in
+      rw (get_or-eq_default keyed false beyond)
+
+  pub count-within : held_count keys keyed end key ≡ held_count keys keyed n key
+  count-within =
+      elim (dec_lt end n) [
+        | yes l ↦ sym (count_past (slot_has keys keyed key) end (past-has l) n (omega (arith, l)))
+        | no l ↦ let same : end ≡ n = omega (arith, e, l) in ap (λ (m : ℕ). held_count keys keyed m key) same
+      ]
+
+  pub count-parts : held_count (take end keys) (take end keyed) end key ≡ held_count keys keyed n key
+  count-parts = front-count keys keyed end key ∙ count-within
+
+  module _ (held : List ℕ) (position : ℕ) where
+    pub slot-within : unwrap_or (find (slot_holds keys keyed held key position) (range_with_len 0 end)) n ≡ held_slot keys keyed held n key position
+    slot-within =
+        find-below (slot_holds keys keyed held key position) end n
+        ∙ elim (dec_lt end n) [
+          | yes l ↦ ap (λ (is : List ℕ). get_or is 0 n) (sym (keep-past (slot_holds keys keyed held key position) end (λ j m. rw (past-has l j m)) n (omega (arith, l))))
+          | no l ↦ let same : end ≡ n = omega (arith, e, l) in ap (λ (m : ℕ). get_or (keep (slot_holds keys keyed held key position) (below m)) 0 n) same
+        ]
+
+    pub slot-parts : unwrap_or (find (slot_holds (take end keys) (take end keyed) (take end held) key position) (range_with_len 0 end)) n ≡ held_slot keys keyed held n key position
+    slot-parts =
+        find-below (slot_holds (take end keys) (take end keyed) (take end held) key position) end n
+        ∙ ap (λ (is : List ℕ). get_or is 0 n) (front-kept keys keyed end key held position) ∙ sym (find-below (slot_holds keys keyed held key position) end n)
+        ∙ slot-within

@@ -3,13 +3,14 @@ use mathlib.Core.Path.{◌≡◌, refl, ap, ◌∙◌}
 use mathlib.Core.List.{List}
 use Prim.Native.Nat.{ℕ, ◌+◌, ◌%◌, ◌≤◌, ◌<◌}
 use native.Mathlib.Omega.{arith}
+use borrow.Author.Tests.{ne_eqb}
 use lib.Dec.{lit<}
 use lib.ListN.{length, take, get_or, set, replicate}
 use lib.Seq.{take_all}
 use lib.Ieee.{Float, nan, binary32, of_bits}
 use Rattle.pattern.specs.Binary32.{◌⊕◌, sum_from}
 use Rattle.score.specs.Lanes.{in_lane, lanes, bracketed}
-use Rattle.score.specs.Score.{index_sums, block_products}
+use Rattle.score.specs.Score.{index_sums, raw_sums, block_products}
 use Rattle.score.proofs.Lanes.{lanes_next}
 use Rattle.score.proofs.Products.{length-products}
 
@@ -34,6 +35,7 @@ module _ (block : List ℕ) (query centroids : List Float) (w : ℕ) where
   pub four-end : (acc : List Float) (i : ℕ) → InFour acc i → length query ≤ i → acc ≡ lanes 4 terms
   four-end acc i h l = h.sums ∙ ap (lanes 4) (take_all i terms (omega (arith, length-products w centroids block query)))
 
-  pub index-sums : (acc : List Float) (folded : Float) → acc ≡ lanes 4 terms → folded ≡ bracketed 2 acc → folded ≡ index_sums terms
-  unfolding index_sums
-  index-sums acc folded a f = rw (f, a)
+  -- folded, they are the raw score
+  pub index-sums : (acc : List Float) (folded : Float) → (w ≡ 4 → ⊥) → acc ≡ lanes 4 terms → folded ≡ bracketed 2 acc → folded ≡ raw_sums w terms
+  unfolding raw_sums index_sums
+  index-sums acc folded n a f = rw (f, a, ne_eqb w 4 n)

@@ -1,8 +1,10 @@
 -- The file of the first slots, by their counts: for every number of slots, as a walk over them meets it.
 use mathlib.Core.Path.{◌≡◌, refl, sym, ap, ap₂, ◌∙◌}
 use mathlib.Core.Bool.{Bool, true, false, ◌&&◌}
+use mathlib.Core.Logic.{⊎_elim}
 use mathlib.Core.List.{List, map, map-map}
-use Prim.Native.Nat.{ℕ, zero, suc, ◌+◌, ◌≤◌}
+use Prim.Native.Nat.{ℕ, zero, suc, ◌+◌, ◌≤◌, ◌<◌, min}
+use native.Mathlib.Nat.{eq-or-lt_of_le}
 use native.Mathlib.Numerals.{add-one}
 use native.Mathlib.Omega.{arith}
 use lib.ListN.{length, get_or, length-map, get_or-eq_default}
@@ -56,13 +58,22 @@ module _ (keyed : List Bool) (alive : List ℕ) (i n : ℕ) (end : length alive 
       let beyond : length alive ≤ j = omega (arith, end, m) in
       rw (get_or-eq_default alive 0 beyond)
 
-  pub counts_end : counts_of keyed alive i ≡ counts_of keyed alive n
+  counts_end : counts_of keyed alive i ≡ counts_of keyed alive n
   unfolding counts_of
   counts_end =
       λ t. record {
         live = sym (count_past (live_at alive) i past-dead n l) t;
         keyed = sym (count_past (entry_at keyed alive) i (λ j m. ap (λ (b : Bool). b && get_or keyed j false) (past-dead j m)) n l) t;
       }
+
+-- so the slots that there are make the counts of all
+pub counts-there : (keyed : List Bool) (alive : List ℕ) (n : ℕ) → counts_of keyed alive (min n (length alive)) ≡ counts_of keyed alive n
+counts-there keyed alive n =
+    let few : min n (length alive) ≤ n = omega arith in
+    ⊎_elim
+    (λ (e : min n (length alive) ≡ n). ap (counts_of keyed alive) e)
+    (λ (l : min n (length alive) < n). counts_end keyed alive (min n (length alive)) n (omega arith) few)
+    (eq-or-lt_of_le few)
 
 -- ---- marks
 

@@ -1,42 +1,37 @@
--- Little-endian numbers, from the highest byte down.
-use mathlib.Core.Path.{◌≡◌, refl, ap}
-use mathlib.Core.List.{List, [], ◌∷◌}
-use Prim.Native.Nat.{ℕ, zero, suc, ◌+◌, ◌-◌, ◌*◌, ◌^◌, ◌≤◌, ◌<◌}
-use native.Mathlib.Nat.{lt_of_lt_of_le, pow-le-pow_right}
-use native.Mathlib.Omega.{arith}
-use lib.ListN.{length, take, drop, get_or, length-drop, length-take, drop_of_length-le}
-use lib.Seq.{get_or-take}
-use Rattle.digits.specs.Digits.{number, Below}
-use Rattle.digits.proofs.Below.{below-take, below-drop}
-use Rattle.digits.proofs.Number.{number_lt}
+-- Little-endian numbers by the worth of each byte, as `from_le_bytes` adds them up.
+use Rattle.std.proofs.Common.{◌≡◌, ℕ, zero, suc, ◌+◌, ◌*◌, ◌^◌, ◌<◌, List, [], ◌∷◌, take, get_or, refl, sym, ◌∙◌, arith}
+use native.Mathlib.Nat.{pow-suc}
+use Rattle.std.specs.Int.{byte_worth, sum_through}
+use Rattle.digits.specs.Digits.{number}
+use Rattle.index.specs.Read.{little_endian}
 
--- the digit at i, and all above it
-number_at : (ds : List ℕ) (i : ℕ) → number 256 (drop i ds) ≡ number 256 (drop (suc i) ds) * 256 + get_or ds i 0
-number_at [] zero = refl
-number_at [] (suc i) = refl
-number_at (d ∷ ds) zero = omega arith
-number_at (d ∷ ds) (suc i) = number_at ds i
+sum-first : (f : ℕ → ℕ) (k : ℕ) → sum_through f (suc k) ≡ f 0 + sum_through (λ i. f (suc i)) k
+sum-first f zero = refl
+sum-first f (suc k) = omega (arith, sum-first f k)
 
-module _ (bytes : List ℕ) (n : ℕ) where
-  -- what the bytes from i on make of the first n
-  abbrev pub above : (i : ℕ) → ℕ
-  above i = number 256 (drop i (take n bytes))
+sum-none : (k : ℕ) → sum_through (λ i. byte_worth i 0) k ≡ 0
+sum-none zero = refl
+sum-none (suc k) = omega (arith, sum-none k)
 
-  pub above-none : above n ≡ 0
-  above-none = ap (number 256) (drop_of_length-le (take n bytes) {i = n} (omega (arith, length-take n bytes)))
+-- the bytes one place up
+sum-up : (f : ℕ → ℕ) (k : ℕ) → sum_through (λ i. byte_worth (suc i) (f i)) k ≡ 256 * sum_through (λ i. byte_worth i (f i)) k
+sum-up f zero = omega arith
+sum-up f (suc k) =
+    let e : 256 ^ suc (suc k) ≡ 256 ^ suc k * 256 = pow-suc 256 (suc k) in
+    rw e (omega (arith, sum-up f k))
 
-  pub above_down : (i : ℕ) → 0 < i → i ≤ n → above i * 256 + get_or bytes (i - 1) 0 ≡ above (i - 1)
-  above_down zero p l = absurd (omega arith)
-  above_down (suc i) p l =
-      let e : suc i - 1 ≡ i = omega arith in
-      rw e (omega (arith, number_at (take n bytes) i, get_or-take n bytes i 0 (omega arith)))
+sum-same : (f g : ℕ → ℕ) (k : ℕ) → ((i : ℕ) → i < suc k → f i ≡ g i) → sum_through (λ i. byte_worth i (f i)) k ≡ sum_through (λ i. byte_worth i (g i)) k
+sum-same f g zero h = h 0 (omega arith)
+sum-same f g (suc k) h = rw (h (suc k) (omega arith)) (omega (arith, sum-same f g k (λ i l. h i (omega arith))))
 
-  module _ (low : Below 256 bytes) where
-    -- n bytes make less than 256 to the n, which is at most 2 to the 64 for eight
-    pub above_low : (i : ℕ) → above i < 256 ^ n
-    above_low i =
-        lt_of_lt_of_le (number_lt 256 (drop i (take n bytes)) (below-drop 256 i (take n bytes) (below-take 256 n bytes low)))
-        (pow-le-pow_right {n = 256} (omega arith) {i = length (drop i (take n bytes))} {j = n} (omega (arith, length-drop i (take n bytes), length-take n bytes)))
+number-sum : (bytes : List ℕ) (k : ℕ) → number 256 (take (suc k) bytes) ≡ sum_through (λ i. byte_worth i (get_or bytes i 0)) k
+number-sum [] k = sym (sum-none k)
+number-sum (b ∷ bytes) zero = omega arith
+number-sum (b ∷ bytes) (suc k) =
+    omega (arith, number-sum bytes k, sum-first (λ i. byte_worth i (get_or (b ∷ bytes) i 0)) k, sum-up (λ i. get_or bytes i 0) k)
 
-    pub above-fits : n ≤ 8 → (i : ℕ) → above i < 0x1_0000_0000_0000_0000
-    above-fits few i = lt_of_lt_of_le (above_low i) (pow-le-pow_right {n = 256} (omega arith) {i = n} {j = 8} few)
+-- what the first bytes make
+pub first-number : (head bytes : List ℕ) (k : ℕ) → ((i : ℕ) → i < suc k → get_or head i 0 ≡ get_or bytes i 0)
+    → sum_through (λ i. byte_worth i (get_or head i 0)) k ≡ little_endian (suc k) bytes
+unfolding little_endian
+first-number head bytes k h = sum-same (λ i. get_or head i 0) (λ i. get_or bytes i 0) k h ∙ sym (number-sum bytes k)

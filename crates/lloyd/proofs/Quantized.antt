@@ -7,8 +7,9 @@ use native.Mathlib.Numerals.{add-one}
 use native.Mathlib.Omega.{arith}
 use mathlib.Core.Bool.{Bool, true, false, cond}
 use mathlib.Core.List.{List, [], ◌∷◌}
-use lib.ListN.{length, drop, get_or, drop_of_length-le}
-use lib.Seq.{drop-cons}
+use Rattle.std.proofs.Common.{count_by}
+use Rattle.std.proofs.lemmas.List.Sums.{count_by-le-length, sum_by-cons}
+use lib.ListN.{length, get_or}
 use lib.Ieee.{Float, nan, lt}
 use Rattle.lloyd.specs.Quantizer.{quantized}
 use Rattle.lloyd.specs.Sound.{Rises}
@@ -18,26 +19,13 @@ once : (t : Bool) → cond t 1 0 ≤ 1
 once true = omega arith
 once false = omega arith
 
+pub quantized-count : (bs : List Float) (x : Float) → quantized bs x ≡ count_by (λ b. lt b x) bs
+unfolding quantized
+quantized-count [] x = refl
+quantized-count (b ∷ bs) x = ap (λ n. cond (lt b x) 1 0 + n) (quantized-count bs x) ∙ sym (sum_by-cons (λ b. cond (lt b x) 1 0) b bs)
+
 pub quantized-le : (bs : List Float) (x : Float) → quantized bs x ≤ length bs
-unfolding quantized
-quantized-le [] x = omega arith
-quantized-le (b ∷ bs) x = omega (arith, once (lt b x), quantized-le bs x)
-
--- while the boundaries are counted: `code` of the first i are below x
-pub record Counting (bs : List Float) (x : Float) (i code : ℕ) : Type 0 where
-  pub passed : i ≤ length bs
-  pub total : code + quantized (drop i bs) x ≡ quantized bs x
-
-pub counting-next : (bs : List Float) (x : Float) (i code r : ℕ) → i < length bs → Counting bs x i code
-    → r ≡ cond (lt (get_or bs i nan) x) 1 0 → Counting bs x (i + 1) (code + r)
-counting-next bs x i code r h c e = record { passed = omega arith; total = omega (arith, c.total, from-i) }
-  where
-    from-i : quantized (drop i bs) x ≡ cond (lt (get_or bs i nan) x) 1 0 + quantized (drop (i + 1) bs) x
-    from-i = unfold quantized in rw (add-one, drop-cons bs i nan h)
-
-pub counting-all : (bs : List Float) (x : Float) (i code : ℕ) → length bs ≤ i → Counting bs x i code → code ≡ quantized bs x
-unfolding quantized
-counting-all bs x i code h c = omega (arith, c.total, ap (λ (l : List Float). quantized l x) (drop_of_length-le bs h))
+quantized-le bs x = rw (quantized-count bs x) (count_by-le-length (λ b. lt b x) bs)
 
 -- at least i boundaries are below x where the first i are, and at most i where none from place i on is
 first_below : (bs : List Float) (x : Float) (i : ℕ) → i ≤ length bs → ((k : ℕ) → k < i → lt (get_or bs k nan) x ≡ true) → i ≤ quantized bs x
@@ -57,7 +45,6 @@ rest-not-below (b ∷ bs) x (suc i) f =
 
 -- of two entries of a table that rises the earlier is below the later
 earlier-below : (bs : List Float) → Rises bs → (i j : ℕ) → i < j → j < length bs → lt (get_or bs i nan) (get_or bs j nan) ≡ true
-unfolding Rises
 earlier-below bs R i zero h l = absurd (not-suc-le-zero h)
 earlier-below bs R i (suc j) h l =
     let step : lt (get_or bs j nan) (get_or bs (suc j) nan) ≡ true = rw add-one at (R j (omega arith)) in

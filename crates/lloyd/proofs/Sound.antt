@@ -9,7 +9,7 @@ use lib.Dec.{T, eqb→eq}
 use lib.ListN.{length, drop, get_or, length-drop}
 use lib.Seq.{get_or-drop}
 use lib.Ieee.{Float, nan, lt}
-use Rattle.lloyd.specs.Sound.{all_below, conditions, sound, Rises, SoundTables}
+use Rattle.lloyd.specs.Sound.{all_below, conditions, sound, SoundTables}
 use Rattle.lists.specs.Keep.{every}
 
 pub both : (a b : Bool) → T (a && b) → T a × T b
@@ -41,7 +41,7 @@ below_next xs ys t i h k =
     rw (add_comm i 1, ← get_or-drop 1 ys i nan) (below_at xs (drop 1 ys) t i h (rw length-drop (omega arith)))
 
 pub sound-at : (boundaries centroids : List Float) → T (sound boundaries centroids) → SoundTables boundaries centroids
-unfolding sound conditions Rises
+unfolding sound conditions
 sound-at bs cs t =
     let h = each (conditions bs cs) t in
     let n : length cs ≡ length bs + 1 = eqb→eq (length cs) (length bs + 1) (h 0) in

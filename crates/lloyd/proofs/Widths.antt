@@ -4,29 +4,27 @@ use mathlib.Core.Logic.{◌≢◌}
 use Prim.Native.Nat.{ℕ, ◌-◌, ◌≤◌, ◌<◌, zero-le}
 use native.Mathlib.Nat.{not-suc-le-zero}
 use native.Mathlib.Decide.{ℕ_discrete}
+use native.Mathlib.Omega.{arith}
 use mathlib.Core.Bool.{Bool, true, false, cond}
 use mathlib.Core.List.{List, []}
+use Rattle.std.proofs.Common.{Bor}
 use lib.Dec.{T, eqb, lit≤}
 use lib.ListN.{length}
 use borrow.Author.Tests.{ne_eqb}
 use lib.Ieee.{Float, lt}
-use Rattle.lloyd.specs.Tables.{by_width, levels_of, centroids_of, boundaries_of, zeros64, in_places, centroids4, centroids5, centroids6, boundaries4, boundaries5, boundaries6}
+use Rattle.lloyd.specs.Tables.{by_width, levels_of, centroids_of, boundaries_of, centroids4, centroids5, centroids6, boundaries4, boundaries5, boundaries6}
 use Rattle.lloyd.specs.Sound.{sound, TablesRule}
 use Rattle.lloyd.proofs.Sound.{sound-at}
 
 -- at a width that is none of the three
 module _ (bits : ℕ) (not-4 : bits ≢ 4) (not-5 : bits ≢ 5) (not-6 : bits ≢ 6) where
-  by-other : {A : Type 0} (four five six other : A) → by_width four five six other bits ≡ other
+  pub by-other : {A : Type 0} (four five six other : A) → by_width four five six other bits ≡ other
   unfolding by_width
   by-other four five six other = simp (ne_eqb bits 4 not-4, ne_eqb bits 5 not-5, ne_eqb bits 6 not-6)
 
   pub no-levels : levels_of bits ≡ 0
   unfolding levels_of
   no-levels = by-other 16 32 64 0
-
-  pub no_table : (four five six : List Float) → in_places (by_width four five six [] bits) ≡ zeros64
-  unfolding in_places
-  no_table four five six = ap in_places (by-other four five six [])
 
 -- a function of what stands for a width
 by-width-map : {A B : Type 0} (f : A → B) (four five six other : A) (bits : ℕ)
@@ -39,6 +37,13 @@ by-width-map f four five six other bits = go (eqb bits 4) (eqb bits 5) (eqb bits
     go false true z = refl
     go false false true = refl
     go false false false = refl
+
+-- of tables that are lent, what a width's one holds
+pub by-width-lent : (bits : ℕ) (four five six other lent : Bor (List Float)) → lent ≡ by_width four five six other bits
+    → lent.now ≡ by_width four.now five.now six.now other.now bits
+by-width-lent bits four five six other lent e =
+    let entries = λ (b : Bor (List Float)). b.now in
+    ap entries e ∙ by-width-map entries four five six other bits
 
 pub centroids-length : (bits : ℕ) → length (centroids_of bits) ≡ levels_of bits
 unfolding centroids_of levels_of centroids4 centroids5 centroids6
@@ -67,6 +72,13 @@ pub levels-le : (bits : ℕ) → levels_of bits ≤ 64
 unfolding levels_of
 levels-le =
     at-each-width (λ bits. levels_of bits ≤ 64) (lit≤ tt) (lit≤ tt) (lit≤ tt) (λ bits p q r. rw (no-levels bits p q r) zero-le)
+
+-- each table has room in 64 places
+pub centroids-fit : (bits : ℕ) → length (centroids_of bits) ≤ 64
+centroids-fit bits = rw (centroids-length bits) (levels-le bits)
+
+pub boundaries-fit : (bits : ℕ) → length (boundaries_of bits) ≤ 64
+boundaries-fit bits = rw (boundaries-length bits) (omega (arith, levels-le bits))
 
 -- the rule over the six tables, computed
 tables-sound : (bits : ℕ) → 0 < levels_of bits → T (sound (boundaries_of bits) (centroids_of bits))

@@ -31,7 +31,7 @@ sound boundaries centroids = every (conditions boundaries centroids)
 -- ---- the rule at each entry
 
 -- each entry that has a next one is below it
-unfoldable pub Rises : List Float → Type 0
+abbrev pub Rises : List Float → Type 0
 Rises table = (i : ℕ) → i + 1 < length table → lt (get_or table i nan) (get_or table (i + 1) nan) ≡ true
 
 pub record SoundTables (boundaries centroids : List Float) : Type 0 where

@@ -10,10 +10,7 @@ ghost use Rattle.marks.specs.Live.{live_at};
 pub fn live_mark(alive: &[u8], slot: usize) -> u8
     ensures { result ≡ get_or alive.now slot 0 }
 {
-    if slot < alive.len() {
-        return alive[slot];
-    }
-    0
+    alive.get(slot).copied().unwrap_or(0)
 }
 
 // Whether a slot is live.
@@ -36,12 +33,6 @@ pub fn set_live_mark(alive: &mut [u8], slot: usize, live: bool)
 pub fn mark_live(alive: &mut [u8], n: usize)
     ensures { alive.new ≡ over (tab (λ _. 1) (min n (length alive.old))) alive.old }
 {
-    let mut i = 0;
-    while i < n {
-        if alive.len() <= i {
-            break;
-        }
-        set_live_mark(alive, i, true);
-        i += 1;
-    }
+    let end = n.min(alive.len());
+    alive[..end].fill(1);
 }

@@ -1,6 +1,5 @@
 -- Codes in eights. Eight codes of w bits are w bytes, so each eight is packed by itself, as one number.
 use mathlib.Core.Path.{◌≡◌, refl, sym, ap, ap₂, ◌∙◌}
-use mathlib.Core.Bool.{true}
 use mathlib.Core.List.{List, [], ◌++◌, append-nil, append_assoc}
 use Prim.Native.Nat.{ℕ, suc, ◌+◌, ◌-◌, ◌*◌, ◌/◌, ◌^◌, ◌<◌, ◌≤◌}
 use native.Mathlib.Nat.{mul-le-mul, mul-le-mul_left, mul-add, mul-zero, add-zero, lt_of_lt_of_le}
@@ -17,9 +16,8 @@ use Rattle.digits.proofs.Below.{below-take, below-drop}
 use Rattle.digits.proofs.Number.{number_append, number_lt, number-from, number-drop}
 use Rattle.digits.proofs.Digits.{length_digits, digits-joined}
 use Rattle.codes.specs.Packing.{bytes_per_vector, packed, spare}
-use Rattle.codes.specs.Writing.{packable}
 use Rattle.codes.proofs.Packing.{length-packed}
-use Rattle.codes.proofs.Tests.{Packable, packable-yes}
+use Rattle.codes.specs.Writing.{Packable}
 
 -- ---- up to eight codes as one number
 
@@ -174,14 +172,13 @@ module _ (w : ℕ) (codes block : List ℕ) (ok : Packable w codes (length block
     length_part : length part ≡ length block - w * eights
     length_part = ap length part-is ∙ length-drop (w * eights) now ∙ ap (λ (n : ℕ). n - w * eights) same
 
-    pub left-packable : packable w left (length part) ≡ true
+    pub left-packable : Packable w left (length part)
     left-packable =
-        packable-yes w left (length part)
-        (record {
+        record {
           width = ok.width;
           size = length_part ∙ size-left;
           fit = below-take (2 ^ w) (length codes - 8 * eights) (drop (8 * eights) codes) (below-drop (2 ^ w) (8 * eights) codes ok.fit);
-        })
+        }
 
     module _ (bytes : Below 256 block) (places : now ≡ over (packed w (take (8 * eights) codes) 0) block) where
       abbrev front : List ℕ

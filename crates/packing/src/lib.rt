@@ -5,7 +5,7 @@ ghost use Rattle.std.specs.Prelude.{◌≡◌, true, ◌-◌, ◌*◌, ◌/◌, 
 ghost use Rattle.lists.specs.Lists.{over};
 ghost use Rattle.digits.specs.Digits.{number, digits, Below, digits_below};
 ghost use Rattle.codes.specs.Packing.{spare, packed};
-ghost use Rattle.codes.specs.Writing.{packable, repacked, spare_after, packed_new, packed_over};
+ghost use Rattle.codes.specs.Writing.{packable, Packable, repacked, spare_after};
 
 // 2 to the power k.
 fn power(k: u8) -> u64
@@ -22,10 +22,8 @@ fn all_fit(codes: &[u8], bits: u8) -> bool
 {
     let base = power(bits) as u16;
     let mut fit = true;
-    let mut i = 0;
-    while i < codes.len() {
-        fit = fit & ((codes[i] as u16) < base);
-        i += 1;
+    for code in codes {
+        fit &= u16::from(*code) < base;
     }
     fit
 }
@@ -37,10 +35,7 @@ fn is_packable(bytes: usize, codes: &[u8], bits: u8) -> bool
     if !codes::is_width(bits) {
         return false;
     }
-    if bytes != codes::bytes_per_vector(codes.len(), bits) {
-        return false;
-    }
-    all_fit(codes, bits)
+    bytes == codes::bytes_per_vector(codes.len(), bits) && all_fit(codes, bits)
 }
 
 // Up to eight codes as one number, the first in its lowest bits.
@@ -50,10 +45,8 @@ fn joined(codes: &[u8], bits: u8) -> u64
 {
     let base = power(bits);
     let mut sum = 0u64;
-    let mut i = codes.len();
-    while 0 < i {
-        i -= 1;
-        sum = codes[i] as u64 + base * sum;
+    for i in (0..codes.len()).rev() {
+        sum = u64::from(codes[i]) + base * sum;
     }
     sum
 }
@@ -63,35 +56,31 @@ fn put_number(bytes: &mut [u8], value: u64)
     ensures { bytes.new ≡ digits 256 (length bytes.old) value }
 {
     let mut rest = value;
-    let mut i = 0;
-    while i < bytes.len() {
-        bytes[i] = (rest % 256) as u8;
-        rest = rest / 256;
-        i += 1;
+    for byte in bytes.iter_mut() {
+        *byte = (rest % 256) as u8;
+        rest /= 256;
     }
 }
 
 // Writes the codes as far as they come in eights: eight codes are one number of `bits` bytes.
 fn put_eights_at(block: &mut [u8], codes: &[u8], bits: u8)
-    requires { packable bits codes.now (length block.old) ≡ true }
+    requires { Packable bits codes.now (length block.old) }
     ensures { block.new ≡ over (packed bits (take (8 * (length codes.now / 8)) codes.now) 0) block.old }
 {
     let w = bits as usize;
-    let mut k = 0;
-    while k < codes.len() / 8 {
+    for k in 0..codes.len() / 8 {
         let from = 8 * k;
         let to = from + 8;
         let value = joined(&codes[from..to], bits);
         let start = w * k;
         let end = start + w;
         put_number(&mut block[start..end], value);
-        k += 1;
     }
 }
 
 // The same, with the three widths written out, so that the compiler knows how far it shifts.
 fn put_eights(block: &mut [u8], codes: &[u8], bits: u8)
-    requires { packable bits codes.now (length block.old) ≡ true }
+    requires { Packable bits codes.now (length block.old) }
     ensures { block.new ≡ over (packed bits (take (8 * (length codes.now / 8)) codes.now) 0) block.old }
 {
     match bits {
@@ -104,7 +93,8 @@ fn put_eights(block: &mut [u8], codes: &[u8], bits: u8)
 
 // Writes the codes that no eight takes, as one number too; what stands above them stays. To read it, the block's bytes are joined as codes of 8 bits.
 fn put_rest(block: &mut [u8], codes: &[u8], bits: u8)
-    requires { (packable bits codes.now (length block.old) ≡ true) × (length codes.now < 8) }
+    requires codes { Packable bits codes.now (length block.old) }
+    requires few { length codes.now < 8 }
     ensures { block.new ≡ packed bits codes.now (spare bits (length codes.now) block.old) }
 {
     let place = power(bits * codes.len() as u8);
@@ -115,7 +105,7 @@ fn put_rest(block: &mut [u8], codes: &[u8], bits: u8)
 
 // Writes the codes of a vector over its block: the eights, and the rest; what stands above them stays.
 fn put_codes(block: &mut [u8], codes: &[u8], bits: u8)
-    requires { packable bits codes.now (length block.old) ≡ true }
+    requires { Packable bits codes.now (length block.old) }
     ensures { block.new ≡ packed bits codes.now (spare bits (length codes.now) block.old) }
 {
     put_eights(block, codes, bits);
@@ -127,43 +117,25 @@ fn put_codes(block: &mut [u8], codes: &[u8], bits: u8)
     put_rest(&mut block[start..end], &codes[from..to], bits);
 }
 
-// Over the block of a slot that is overwritten: the spare bits stay.
-fn pack_over(block: &mut [u8], codes: &[u8], bits: u8)
-    ensures { block.new ≡ packed_over bits codes.now block.old }
-{
-    if is_packable(block.len(), codes, bits) {
-        put_codes(block, codes, bits);
-    }
-}
-
 // Clears the last byte, in which all spare bits lie.
 fn clear_last(block: &mut [u8])
     ensures { block.new ≡ set block.old (length block.old - 1) 0 }
 {
-    let n = block.len();
-    if 0 < n {
-        block[n - 1] = 0;
+    if let Some(last) = block.last_mut() {
+        *last = 0;
     }
 }
 
-// Into the block of a slot that is appended: the spare bits become 0.
-fn pack_new(block: &mut [u8], codes: &[u8], bits: u8)
-    ensures { block.new ≡ packed_new bits codes.now block.old }
-{
-    if is_packable(block.len(), codes, bits) {
-        clear_last(block);
-        put_codes(block, codes, bits);
-    }
-}
-
-// The codes of a vector, into the block of an appended slot, or over that of an overwritten one.
+// The codes of a vector, into the block of an appended slot, whose spare bits become 0, or over that of an overwritten one, whose spare bits stay.
 pub fn pack(codes: &[u8], bits: u8, fresh: bool, block: &mut [u8])
     ensures { block.new ≡
         repacked bits codes.now (spare_after fresh bits (length codes.now) block.old) block.old }
 {
-    if fresh {
-        pack_new(block, codes, bits);
-    } else {
-        pack_over(block, codes, bits);
+    if !is_packable(block.len(), codes, bits) {
+        return;
     }
+    if fresh {
+        clear_last(block);
+    }
+    put_codes(block, codes, bits);
 }

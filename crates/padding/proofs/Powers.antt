@@ -1,13 +1,14 @@
 -- Powers of two: what `exponent` and `padded_dim` mean.
 use mathlib.Core.Path.{◌≡◌, refl, sym, ap, ◌∙◌}
-use Prim.Native.Nat.{ℕ, suc, suc-le-suc, ◌+◌, ◌-◌, ◌*◌, ◌%◌, ◌^◌, ◌≤◌, ◌<◌}
-use native.Mathlib.Nat.{le_of_suc-le-suc, le_antisymm, le_refl, lt_of_not-le, mod-eq_of_lt, one-mul}
+use Prim.Native.Nat.{ℕ, suc, ◌-◌, ◌^◌, ◌≤◌, ◌<◌}
+use native.Mathlib.Nat.{le_of_suc-le-suc, le_antisymm, le_refl, lt_of_not-le}
 use native.Mathlib.Omega.{arith}
 use borrow.Author.Tests.{le-leb, lt-leb}
-use lib.Arith.{le-zero}
-use lib.Count.{count_leading_zeros, leading_length}
 use lib.Ieee.Digits.{size-lt, size-le}
 use lib.Pow.{pow_pos, pow-lt, pow_mono}
+use Rattle.std.specs.Prelude.{Option, Some, None}
+use Rattle.std.specs.Option.{MatchOption, unwrap_or}
+use Rattle.std.specs.Int.{IsNextPowerOfTwo}
 use Rattle.padding.specs.Padded.{exponent, padded_dim, LeastPower}
 
 -- powers of two order as their exponents do
@@ -50,24 +51,13 @@ padded-pow n k e h = padded-is n h ∙ ap (λ (z : ℕ). 2 ^ z) (ap exponent e �
 pub padded-fixed : (n : ℕ) → n ≤ 2 ^ 63 → padded_dim n ≡ n → 2 ^ exponent n ≡ n
 padded-fixed n h e = sym (padded-is n h) ∙ e
 
-pub padded-small : (n : ℕ) → n ≤ 1 → padded_dim n ≡ 1
-padded-small n h = padded-is n (omega arith) ∙ ap (λ (k : ℕ). 2 ^ k) (le-zero (exponent-least n 0 h))
-
--- the binary digits of n - 1, counted
-exponent-counts : (n m : ℕ) → 0 < n → n - 1 < 2 ^ m → 2 ^ m ≤ 2 * (n - 1) + 1 → exponent n ≡ m
-exponent-counts n m p above below =
-    le_antisymm (exponent-least n m (omega arith)) (le_of_suc-le-suc (pow-reflects-lt m (suc (exponent n)) (omega (arith, exponent-reaches n))))
-
--- the exponent and the power as `padded_dim` finds them
-module _ (n : ℕ) (p : 0 < n) (h : n ≤ 2 ^ 63) where
-  exponent-leading : 64 - count_leading_zeros 64 (n - 1) ≡ exponent n
-  exponent-leading =
-      let l = leading_length 64 (n - 1) (omega arith) in
-      let e = exponent-counts n l.0 p l.2 l.3 in
-      omega (arith, l.1)
-
-  pub shift_small : 64 - count_leading_zeros 64 (n - 1) < 64
-  shift_small = rw exponent-leading (suc-le-suc (exponent-least n 63 h))
-
-  pub padded-shift : 1 * 2 ^ (64 - count_leading_zeros 64 (n - 1)) % 2 ^ 64 ≡ padded_dim n
-  padded-shift = rw one-mul (mod-eq_of_lt (pow-lt {j = 64} shift_small) ∙ ap (λ (k : ℕ). 2 ^ k) exponent-leading ∙ sym (padded-is n h))
+-- what `checked_next_power_of_two` gives for n, and 0 where that is none
+pub padded_next : (n : ℕ) (o : Option ℕ) → MatchOption o (2 ^ 63 < n) (IsNextPowerOfTwo n) → unwrap_or o 0 < 2 ^ 64 → unwrap_or o 0 ≡ padded_dim n
+padded_next n None e h = sym (padded-none n e)
+padded_next n (Some p) e h =
+    let k = e.0.0 in
+    let small : k < 64 = pow-reflects-lt k 64 (rw e.0.1 at h) in
+    let fits : n ≤ 2 ^ 63 = omega (arith, e.0.1, e.1, pow_mono {i = k} {j = 63} (omega arith)) in
+    let least : exponent n ≤ k = exponent-least n k (omega (arith, e.0.1)) in
+    let most : k ≤ exponent n = le_of_suc-le-suc (pow-reflects-lt k (suc (exponent n)) (omega (arith, e.0.1, e.2, exponent-reaches n, pow_pos (exponent n)))) in
+    e.0.1 ∙ ap (λ (z : ℕ). 2 ^ z) (le_antisymm most least) ∙ sym (padded-is n fits)

@@ -6,30 +6,20 @@ ghost use Rattle.padding.specs.Padded.{padded_dim};
 ghost use Rattle.padding.specs.Rotatable.{rotatable};
 
 // The least power of two at or above dim, and 0 where that is no usize.
+#[tactic(auto, using(crate::proofs::Powers::padded_next))]
 pub fn padded_dim(dim: usize) -> usize
     ensures { result ≡ padded_dim dim }
 {
-    if dim <= 1 {
-        return 1;
-    }
-    if 0x8000_0000_0000_0000 < dim {
-        return 0;
-    }
-    1 << (64 - usize::leading_zeros(dim - 1))
+    dim.checked_next_power_of_two().unwrap_or(0)
 }
 
 // Whether a vector of so many entries can be rotated into so many places.
+#[tactic(auto, unfolding(crate::specs::Rotatable::rotatable))]
 pub fn is_rotatable(working_dim: usize, entries: usize, places: usize) -> bool
     ensures { result ≡ rotatable working_dim entries places }
 {
-    if working_dim < 1 {
-        return false;
-    }
-    if 4096 < working_dim {
-        return false;
-    }
-    if entries < working_dim {
-        return false;
-    }
-    padded_dim(working_dim) <= places
+    1 <= working_dim
+        && working_dim <= 4096
+        && working_dim <= entries
+        && padded_dim(working_dim) <= places
 }

@@ -1,12 +1,15 @@
 -- Positions that are all 0.
-use mathlib.Core.Path.{◌≡◌, refl}
+use mathlib.Core.Path.{◌≡◌, refl, sym}
 use mathlib.Core.Bool.{Bool, true, false, not, true≢false}
-use mathlib.Core.Logic.{⊎_elim}
 use mathlib.Core.List.{List}
-use Prim.Native.Nat.{ℕ, ◌+◌, ◌<◌}
-use native.Mathlib.Nat.{eq-or-lt_of_le}
+use Prim.Native.Nat.{ℕ, ◌≤◌}
 use native.Mathlib.Omega.{arith}
-use lib.ListN.{get_or}
+use lib.ListN.{length, length-take, take}
+use lib.Dec.{ltb}
+use lib.Seq.{get_or-take}
+use borrow.Author.Tests.{ltb-true}
+use Rattle.std.proofs.lemmas.List.Kept.{AllPairs-from_increasing}
+use Rattle.std.specs.List.{IsAllAdjacentAnswer}
 use Rattle.positions.specs.Decides.{Decides}
 use Rattle.positions.specs.Ordered.{Keys, Ordered, AllFirst}
 use Rattle.positions.proofs.Decides.{holds, fails}
@@ -19,16 +22,12 @@ not-decides false = holds refl
 
 -- ---- words that rise
 
-module _ (keys : List ℕ) where
-  pub climbing-one : Climbing keys 1
-  climbing-one i j l m = absurd (omega arith)
-
-  module _ (n : ℕ) (c : Climbing keys (n + 1)) (next : get_or keys n 0 < get_or keys (n + 1) 0) where
-    last-higher : (i : ℕ) → i < n + 1 → get_or keys i 0 < get_or keys (n + 1) 0
-    last-higher i l = ⊎_elim (λ (e : i ≡ n). rw e next) (λ (m : i < n). omega (arith, next, c i n m (omega arith))) (eq-or-lt_of_le (omega arith))
-
-    pub climbing-more : Climbing keys (n + 1 + 1)
-    climbing-more i j l m = ⊎_elim (λ (e : j ≡ n + 1). rw e (last-higher i (omega (arith, e)))) (λ (k : j < n + 1). c i j l k) (eq-or-lt_of_le (omega arith))
+-- as the library's method says of the first n
+pub climbing : (keys : List ℕ) (n : ℕ) (r : Bool) → n ≤ length keys → IsAllAdjacentAnswer (λ x y b. b ≡ ltb x y) (take n keys) r → r ≡ true → Climbing keys n
+climbing keys n r l h e =
+    let next = rw e at h in
+    let pairs = AllPairs-from_increasing (take n keys) (λ k m. ltb-true _ _ (sym (next k 0 m))) in
+    λ i j m o. omega (arith, pairs i j 0 m (rw length-take (omega arith)), get_or-take n keys i 0 (omega arith), get_or-take n keys j 0 o)
 
 -- ---- what follows
 

@@ -15,7 +15,7 @@ use Rattle.index.specs.Fit.{Row, of_key_at, positioned}
 use Rattle.positions.specs.Decides.{Decides}
 use Rattle.positions.specs.Ordered.{Keys, Room, Holds, Ordered}
 use Rattle.positions.specs.Positions.{has_room, row_of, rows_of, positions_fit}
-use Rattle.positions.proofs.Decides.{decided, decides-true}
+use Rattle.positions.proofs.Decides.{decided, decides-true, decides-beside, same}
 use Rattle.positions.proofs.Tests.{both, left, right, each, nothing, also, all-mem, mem-all}
 use Rattle.positions.proofs.Consecutive.{Consecutive, of_key_at-parts, of_key_at-made, consecutive}
 
@@ -163,3 +163,7 @@ module _ (a : Keys) (n : ℕ) where
       decided (positions_fit a n)
       (λ e. (room-from (left (has_room a n) (all (positioned rs) rs) e), d.yes (right (has_room a n) (all (positioned rs) rs) e)))
       (λ p. both (has_room a n) (all (positioned rs) rs) (room-to p.0) (decides-true d p.1))
+
+-- The answer where the arrays have the slots, of the same arrays and slots.
+pub answer-fits : {a b : Keys} {m n : ℕ} {r : Bool} → a ≡ b → m ≡ n → Room a m → Decides r (Ordered a m) → r ≡ positions_fit b n
+answer-fits e f room d = rw (sym e, sym f) (same _ _ (decides-beside room d) (positions-meaning _ _))

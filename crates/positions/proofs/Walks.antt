@@ -3,13 +3,13 @@ use mathlib.Core.Path.{◌≡◌, refl, sym, ap, ◌∙◌, subst}
 use mathlib.Core.Bool.{true, false, not, true≢false, false≢true}
 use mathlib.Core.Logic.{⊎_elim}
 use mathlib.Core.List.{List}
-use Prim.Native.Nat.{ℕ, zero, suc, ◌+◌, ◌-◌, ◌*◌, ◌/◌, ◌^◌, ◌≤◌, ◌<◌}
+use Prim.Native.Nat.{ℕ, suc, ◌+◌, ◌-◌, ◌*◌, ◌/◌, ◌≤◌, ◌<◌}
 use native.Mathlib.Nat.{suc_inj, eq-or-lt_of_le, le_of_suc-le-suc}
 use native.Mathlib.Decide.{ℕ_discrete}
 use native.Mathlib.Omega.{arith}
 use lib.Dec.{eqb}
 use lib.Bits.{and_le_r}
-use lib.ListN.{length, get_or, set, replicate, length-set}
+use lib.ListN.{length, get_or, set, length-set}
 use borrow.Author.Tests.{eqb-true, eqb-false, not-true, not-false}
 use lib.Seq.{get_or-set_same, get_or-set_other}
 use Rattle.positions.specs.Ordered.{Keys, Holds, New, Preceded, Ordered}
@@ -20,10 +20,6 @@ use Rattle.positions.specs.Tree.{mixed, root_of, branch, Reaches, here, further,
 pub root-low : (roots key position : ℕ) → 0 < roots → root_of roots key position < roots
 unfolding root_of
 root-low roots key position h = omega (arith, and_le_r (mixed key + position) (roots - 1))
-
--- the sum that gives the root fits
-pub root-fits : (m position : ℕ) → m < 2 ^ 64 → position < 2 ^ 32 → m / 0x8000 + position < 2 ^ 64
-root-fits m position h l = omega arith
 
 pub reaches-kept : {roots j : ℕ} {tree tree' : List ℕ} {bits place : ℕ} → Keeps tree tree' → Reaches roots tree j bits place → Reaches roots tree' j bits place
 reaches-kept k (here e) = here (k _ _ e)
@@ -205,9 +201,3 @@ module _ (a : Keys) (n slot : ℕ) where
             let w = f (get_or a.keys slot 0) (get_or a.held slot 0 - 1) (record { keyed = on; key = refl; position = entry-slot _ above }) in
             not_there a roots n tree g _ _ place ends (eqb-true _ _ (not-false _ e)) w.0 w.1 w.2;
       }
-
--- an array of zeros
-pub all-zero : (n i : ℕ) → ◌≡◌ {A = ℕ} (get_or (replicate n 0) i 0) 0
-all-zero zero i = refl
-all-zero (suc n) zero = refl
-all-zero (suc n) (suc i) = all-zero n i

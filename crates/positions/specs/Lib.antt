@@ -3,3 +3,4 @@ pub mod Positions
 pub mod Decides
 pub mod Ordered
 pub mod Tree
+pub mod Lent

@@ -1,5 +1,5 @@
 -- Positions. Document 01, 13: "a key's t slots not holding positions 0 to t-1 once each (unkeyed and dead hold 0)". For one slot that is the index's `positioned`.
-use Rattle.std.specs.Prelude.{◌≡◌, Bool, true, false, ◌&&◌, List, [], ◌∷◌, ℕ, suc, ◌<◌, length, get_or, leb}
+use Rattle.std.specs.Prelude.{◌≡◌, Bool, true, false, ◌&&◌, Option, Some, None, List, [], ◌∷◌, ℕ, suc, ◌<◌, length, get_or, leb}
 use Rattle.lists.specs.Lists.{tab}
 use Rattle.index.specs.Fit.{Row, positioned}
 use Rattle.lists.specs.Keep.{all, every}
@@ -22,15 +22,14 @@ positions_fit a n = has_room a n && all (positioned (rows_of a (λ i. 0) n)) (ro
 
 -- ---- what the program's one pass asks of each slot
 
--- Slot j follows the last keyed slot before it, whose number is last - 1 (last is 0 where there is none): it has a greater key and position 0, or the same key and the
--- next position.
-pub data Follows (keys held : List ℕ) : (last j : ℕ) → Type 0 where
-  first : {j : ℕ} → get_or held j 0 ≡ 0 → Follows keys held 0 j
-  greater : {i j : ℕ} → get_or keys i 0 < get_or keys j 0 → get_or held j 0 ≡ 0 → Follows keys held (suc i) j
-  again : {i j : ℕ} → get_or keys i 0 ≡ get_or keys j 0 → get_or held j 0 ≡ suc (get_or held i 0) → Follows keys held (suc i) j
+-- Slot j follows the last keyed slot before it, if there is one: it has a greater key and position 0, or the same key and the next position.
+pub data Follows (keys held : List ℕ) : (last : Option ℕ) (j : ℕ) → Type 0 where
+  first : {j : ℕ} → get_or held j 0 ≡ 0 → Follows keys held None j
+  greater : {i j : ℕ} → get_or keys i 0 < get_or keys j 0 → get_or held j 0 ≡ 0 → Follows keys held (Some i) j
+  again : {i j : ℕ} → get_or keys i 0 ≡ get_or keys j 0 → get_or held j 0 ≡ suc (get_or held i 0) → Follows keys held (Some i) j
 
 -- what one look at slot j asks where keys and positions are to rise
-pub record Rising (a : Keys) (last j : ℕ) : Type 0 where
+pub record Rising (a : Keys) (last : Option ℕ) (j : ℕ) : Type 0 where
   pub follows : get_or a.keyed j false ≡ true → Follows a.keys a.held last j
   pub loose : get_or a.keyed j false ≡ false → get_or a.held j 0 ≡ 0
 

@@ -4,165 +4,131 @@
 
 mod tree;
 
-ghost use Rattle.std.specs.Prelude.{◌≡◌, true, false, cond, suc, ◌+◌, ◌^◌, ◌≤◌, ◌<◌, length, get_or};
+ghost use Rattle.std.specs.Prelude.{◌≡◌, true, Some, MatchOption, IfSome, ◌<◌};
 ghost use Rattle.positions.specs.Decides.{Decides};
 ghost use Rattle.positions.specs.Ordered.{lent_keys, Room, Ordered, AllFirst};
 ghost use Rattle.positions.specs.Positions.{positions_fit, Follows, Rising, NoneKeyed, Climbing};
 
-fn wide(x: u32) -> usize
-    ensures { (result ≡ x) × (result < 2 ^ 32) }
-{
-    x as usize
+// The lent arrays of keys, of which the first n slots are tested.
+#[derive(Clone, Copy)]
+struct HeldKeys<'a> {
+    keys: &'a [u64],
+    keyed: &'a [bool],
+    held: &'a [u32],
+    n: usize,
+    ghost room: { Room (lent_keys keys keyed held) n },
 }
 
-// Whether the arrays have the first n slots, at most 65,536.
-fn has_room(keys: &[u64], keyed: &[bool], held: &[u32], n: usize) -> bool
-    ensures { Decides result (Room (lent_keys keys.entry keyed.entry held.entry) n) }
-{
-    if 65536 < n {
-        return false;
-    }
-    if keys.len() < n {
-        return false;
-    }
-    if keyed.len() < n {
-        return false;
-    }
-    n <= held.len()
-}
+impl<'a> HeldKeys<'a> {
+    ghost use Rattle.positions.specs.Lent.{keys_of};
 
-// ---- no position but 0
-
-// Whether each of the first n slots holds position 0. None of them ends the loop, so that the compiler takes many at a time.
-fn all_first(held: &[u32], n: usize) -> bool
-    requires { n ≤ length held.now }
-    ensures { Decides result (AllFirst held.now n) }
-{
-    let mut all = true;
-    let mut i = 0;
-    while i < n {
-        all = all & (held[i] == 0);
-        i += 1;
-    }
-    all
-}
-
-// Whether none of the first n slots has a key. None of them ends the loop, so that the compiler takes many at a time.
-fn none_keyed(keyed: &[bool], n: usize) -> bool
-    requires { n ≤ length keyed.now }
-    ensures { Decides result (NoneKeyed keyed.now n) }
-{
-    let mut all = true;
-    let mut i = 0;
-    while i < n {
-        all = all & !keyed[i];
-        i += 1;
-    }
-    all
-}
-
-// Whether the words of the first n slots rise, whether they stand for keys or not.
-fn words_rise(keys: &[u64], n: usize) -> bool
-    requires { n ≤ length keys.now }
-    ensures { result ≡ true → Climbing keys.now n }
-{
-    let mut i = 0;
-    while i + 1 < n {
-        if keys[i + 1] <= keys[i] {
-            return false;
-        }
-        i += 1;
-    }
-    true
-}
-
-// Whether every position is 0, and there are no keys or the words rise. Then the positions are in order.
-fn plain(keys: &[u64], keyed: &[bool], held: &[u32], n: usize) -> bool
-    requires { Room (lent_keys keys keyed held) n }
-    ensures { result ≡ true → Ordered (lent_keys keys.entry keyed.entry held.entry) n }
-{
-    if all_first(held, n) {
-        if none_keyed(keyed, n) {
-            return true;
-        }
-        return words_rise(keys, n);
-    }
-    false
-}
-
-// ---- keys and positions that rise with the slots
-
-// Whether a slot has a greater key than an earlier one and position 0, or the same key and the next position.
-fn follows_slot(keys: &[u64], held: &[u32], before: usize, slot: usize) -> bool
-    requires { (before < slot) × (slot < length keys.now) × (slot < length held.now) }
-    ensures { result ≡ true → Follows keys.now held.now (suc before) slot }
-{
-    if keys[before] < keys[slot] {
-        return held[slot] == 0;
-    }
-    if keys[before] == keys[slot] {
-        return wide(held[slot]) == wide(held[before]) + 1;
-    }
-    false
-}
-
-// Whether a slot follows the last keyed one before it, whose number is last - 1 (0: there is none), or has no key and holds 0.
-fn follows_last(keys: &[u64], keyed: &[bool], held: &[u32], last: usize, slot: usize) -> bool
-    requires { (last ≤ slot) × (slot < length keys.now) × (slot < length keyed.now) × (slot < length held.now) }
-    ensures { result ≡ true → Rising (lent_keys keys.entry keyed.entry held.entry) last slot }
-{
-    if keyed[slot] {
-        if last == 0 {
-            return held[slot] == 0;
-        }
-        return follows_slot(keys, held, last - 1, slot);
-    }
-    held[slot] == 0
-}
-
-// The last keyed slot's number plus 1, after one more slot.
-fn last_after(keyed: &[bool], last: usize, slot: usize) -> usize
-    requires { slot < length keyed.now }
-    ensures { result ≡ cond (get_or keyed.now slot false) (slot + 1) last }
-{
-    if keyed[slot] {
-        return slot + 1;
-    }
-    last
-}
-
-// Whether each keyed slot follows the one before it. Then the positions are in order.
-fn rise(keys: &[u64], keyed: &[bool], held: &[u32], n: usize) -> bool
-    requires { Room (lent_keys keys keyed held) n }
-    ensures { result ≡ true → Ordered (lent_keys keys.entry keyed.entry held.entry) n }
-{
-    let mut last: usize = 0;
-    let mut i = 0;
-    while i < n {
-        if follows_last(keys, keyed, held, last, i) {
-            last = last_after(keyed, last, i);
-            i += 1;
+    // The arrays, where they have the first n slots, at most 65,536.
+    fn new(keys: &'a [u64], keyed: &'a [bool], held: &'a [u32], n: usize) -> Option<Self>
+        ensures { MatchOption result (Room (lent_keys keys.entry keyed.entry held.entry) n → ⊥)
+            (λ s. (keys_of s ≡ lent_keys keys.entry keyed.entry held.entry) × (s.n ≡ n)) }
+    {
+        if n <= 65536 && n <= keys.len() && n <= keyed.len() && n <= held.len() {
+            Some(HeldKeys {
+                keys,
+                keyed,
+                held,
+                n,
+            })
         } else {
-            return false;
+            None
         }
     }
-    true
-}
 
-// ---- the test
+    // ---- no position but 0
+
+    // Whether each slot holds position 0. None of them ends the loop, so that the compiler takes many at a time.
+    fn all_first(&self) -> bool
+        ensures { Decides result (AllFirst self.now.held.now self.now.n) }
+    {
+        let mut all = true;
+        for slot in 0..self.n {
+            all &= self.held[slot] == 0;
+        }
+        all
+    }
+
+    // Whether no slot has a key. None of them ends the loop, so that the compiler takes many at a time.
+    fn none_keyed(&self) -> bool
+        ensures { Decides result (NoneKeyed self.now.keyed.now self.now.n) }
+    {
+        let mut none = true;
+        for slot in 0..self.n {
+            none &= !self.keyed[slot];
+        }
+        none
+    }
+
+    // Whether the words of the slots rise, whether they stand for keys or not.
+    fn words_rise(&self) -> bool
+        ensures { result ≡ true → Climbing self.now.keys.now self.now.n }
+    {
+        self.keys[..self.n].is_sorted_by(|a, b| *a < *b)
+    }
+
+    // Whether every position is 0, and there are no keys or the words rise. Then the positions are in order.
+    fn plain(&self) -> bool
+        ensures { result ≡ true → Ordered (keys_of self.now) self.now.n }
+    {
+        self.all_first() && (self.none_keyed() || self.words_rise())
+    }
+
+    // ---- keys and positions that rise with the slots
+
+    // Whether a slot has a greater key than an earlier one and position 0, or the same key and the next position.
+    fn follows_slot(&self, before: usize, slot: usize) -> bool
+        requires { (before < slot) × (slot < self.now.n) }
+        ensures { result ≡ true → Follows self.now.keys.now self.now.held.now (Some before) slot }
+    {
+        if self.keys[before] < self.keys[slot] {
+            self.held[slot] == 0
+        } else {
+            self.keys[before] == self.keys[slot]
+                && self.held[slot] as usize == self.held[before] as usize + 1
+        }
+    }
+
+    // Whether a slot follows the last keyed one before it, or has no key and holds 0.
+    fn follows(&self, last: Option<usize>, slot: usize) -> bool
+        requires { (slot < self.now.n) × IfSome last (λ before. before < slot) }
+        ensures { result ≡ true → Rising (keys_of self.now) last slot }
+    {
+        if !self.keyed[slot] {
+            return self.held[slot] == 0;
+        }
+        match last {
+            Some(before) => self.follows_slot(before, slot),
+            None => self.held[slot] == 0,
+        }
+    }
+
+    // Whether each keyed slot follows the one before it. Then the positions are in order.
+    fn rise(&self) -> bool
+        ensures { result ≡ true → Ordered (keys_of self.now) self.now.n }
+    {
+        let mut last = None;
+        for slot in 0..self.n {
+            if !self.follows(last, slot) {
+                return false;
+            }
+            if self.keyed[slot] {
+                last = Some(slot);
+            }
+        }
+        true
+    }
+}
 
 // Whether the arrays have the first n slots, at most 65,536, and there each key's t slots hold the positions 0 to t - 1 once each and the others hold 0.
 pub fn positions_fit(keys: &[u64], keyed: &[bool], held: &[u32], n: usize) -> bool
     ensures { result ≡ positions_fit (lent_keys keys.entry keyed.entry held.entry) n }
 {
-    if has_room(keys, keyed, held, n) {
-        if plain(keys, keyed, held, n) {
-            return true;
-        }
-        if rise(keys, keyed, held, n) {
-            return true;
-        }
-        return tree::in_order(keys, keyed, held, n);
+    match HeldKeys::new(keys, keyed, held, n) {
+        Some(s) => s.plain() || s.rise() || s.in_order(),
+        None => false,
     }
-    false
 }

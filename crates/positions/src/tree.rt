@@ -2,10 +2,11 @@
 // whatever the keys are.
 ghost use Rattle.std.specs.Prelude.{◌≡◌, ℕ, suc, ◌+◌, ◌-◌, ◌*◌, ◌^◌, ◌≤◌, ◌<◌, length, get_or};
 ghost use Rattle.positions.specs.Decides.{Decides};
-ghost use Rattle.positions.specs.Ordered.{lent_keys, Room, Preceded, Ordered};
+ghost use Rattle.positions.specs.Lent.{keys_of};
+ghost use Rattle.positions.specs.Ordered.{Preceded, Ordered};
 ghost use Rattle.positions.specs.Tree.{root_of, branch, Passes, Tree, Ends, Grown, Entered, AllEntered};
 
-use super::{all_first, wide};
+use super::HeldKeys;
 
 // The place where the walk of a key's position begins.
 fn root(key: u64, position: u32, roots: usize) -> usize
@@ -13,24 +14,7 @@ fn root(key: u64, position: u32, roots: usize) -> usize
     ensures { result ≡ root_of roots key position }
 {
     let mixed = (key % 0x1_0000_0000 * 0x4F1B_BCDD + key / 0x1_0000_0000 * 0x2F0B_4C47) / 0x8000;
-    (mixed as usize + wide(position)) & (roots - 1)
-}
-
-// Whether a walk goes on from a place: a slot stands there that holds something else.
-fn passes(keys: &[u64], held: &[u32], tree: &[u32], place: usize, key: u64, position: u32) -> bool
-    requires place_in_bounds { place < length tree.now }
-    requires by_index { (slot : ℕ) → get_or tree.now place 0 ≡ suc slot → (slot < length keys.now) × (slot < length held.now) }
-    ensures { Passes keys.now held.now tree.now key position place result }
-{
-    if tree[place] == 0 {
-        return false;
-    }
-    let slot = wide(tree[place]) - 1;
-    if keys[slot] == key {
-        held[slot] != position
-    } else {
-        true
-    }
+    (mixed as usize + position as usize) & (roots - 1)
 }
 
 // The branch of the slot that stands at a place, by the lowest bit.
@@ -38,212 +22,131 @@ fn branch_of(entry: u32, roots: usize, bits: u64) -> usize
     requires { (0 < entry) × (roots + 2 * entry < 2 ^ 64) }
     ensures { result ≡ branch roots (entry - 1) bits }
 {
-    roots + 2 * (wide(entry) - 1) + (bits % 2) as usize
+    roots + 2 * (entry as usize - 1) + (bits % 2) as usize
 }
 
-// The place where the walk of a key's position ends. It has at most 64 steps: of the pairs that share a root no two have the same key, since their positions are
-// below `roots`, and each step takes one bit of the key.
-fn find(keys: &[u64], held: &[u32], tree: &[u32], roots: usize, key: u64, position: u32) -> usize
-    requires { Tree keys.now held.now roots tree.now }
-    ensures { Ends keys.now held.now roots tree.now key position result }
-{
-    let mut place = root(key, position, roots);
-    let mut bits = key;
-    while passes(keys, held, tree, place, key, position) {
-        place = branch_of(tree[place], roots, bits);
-        bits = bits / 2;
-    }
-    place
-}
-
-// Enters a slot. False where its position is too high for any key, where the walk meets a slot that holds the same, and where a slot without a key doesn't hold 0.
-fn enter(
-    keys: &[u64],
-    keyed: &[bool],
-    held: &[u32],
-    tree: &mut [u32],
-    roots: usize,
-    n: usize,
-    slot: usize,
-) -> bool
-    requires room { Room (lent_keys keys keyed held) n }
-    requires slot_lt_n { (slot < n) × (roots + 2 * n ≤ length tree.old) }
-    requires grown { Grown (lent_keys keys keyed held) roots slot tree.old }
-    ensures { Entered (lent_keys keys.entry keyed.entry held.entry) roots n slot tree.new result }
-{
-    if keyed[slot] {
-        let position = held[slot];
-        if n <= wide(position) {
-            return false;
-        }
-        let place = find(keys, held, tree, roots, keys[slot], position);
+// The tree is lent beside its number of roots: a struct that holds a `&mut` can have no ghost field, so `Grown` would stand in each contract still.
+impl HeldKeys<'_> {
+    // Whether a walk goes on from a place: a slot stands there that holds something else.
+    fn passes(&self, tree: &[u32], place: usize, key: u64, position: u32) -> bool
+        requires within { place < length tree.now }
+        requires standing { (slot : ℕ) → get_or tree.now place 0 ≡ suc slot → (slot < length self.now.keys.now) × (slot < length self.now.held.now) }
+        ensures { Passes self.now.keys.now self.now.held.now tree.now key position place result }
+    {
         if tree[place] == 0 {
-            tree[place] = (slot + 1) as u32;
-            return true;
-        }
-        return false;
-    }
-    held[slot] == 0
-}
-
-// Enters all slots, up to one that fails.
-fn enter_all(
-    keys: &[u64],
-    keyed: &[bool],
-    held: &[u32],
-    tree: &mut [u32],
-    roots: usize,
-    n: usize,
-) -> bool
-    requires room { Room (lent_keys keys keyed held) n }
-    requires n_in_bounds { roots + 2 * n ≤ length tree.old }
-    requires grown { Grown (lent_keys keys keyed held) roots 0 tree.old }
-    ensures { AllEntered (lent_keys keys.entry keyed.entry held.entry) roots n tree.new result }
-{
-    let mut i = 0;
-    while i < n {
-        if enter(keys, keyed, held, tree, roots, n, i) {
-            i += 1;
-        } else {
             return false;
         }
+        let slot = tree[place] as usize - 1;
+        self.keys[slot] != key || self.held[slot] != position
     }
-    true
-}
 
-// Whether the position before a slot's own is held.
-fn is_preceded(
-    keys: &[u64],
-    keyed: &[bool],
-    held: &[u32],
-    tree: &[u32],
-    roots: usize,
-    n: usize,
-    slot: usize,
-) -> bool
-    requires room { Room (lent_keys keys keyed held) n }
-    requires slot_lt_n { slot < n }
-    requires grown { Grown (lent_keys keys keyed held) roots n tree.now }
-    ensures { Decides result (Preceded (lent_keys keys.entry keyed.entry held.entry) n slot) }
-{
-    if keyed[slot] {
-        let position = held[slot];
-        if position == 0 {
-            return true;
+    // The place where the walk of a key's position ends. It has at most 64 steps: of the pairs that share a root no two have the same key, since their positions are
+    // below `roots`, and each step takes one bit of the key.
+    fn find(&self, tree: &[u32], roots: usize, key: u64, position: u32) -> usize
+        requires { Tree self.now.keys.now self.now.held.now roots tree.now }
+        ensures { Ends self.now.keys.now self.now.held.now roots tree.now key position result }
+    {
+        let mut place = root(key, position, roots);
+        let mut bits = key;
+        while self.passes(tree, place, key, position) {
+            place = branch_of(tree[place], roots, bits);
+            bits /= 2;
         }
-        let place = find(keys, held, tree, roots, keys[slot], position - 1);
-        return tree[place] != 0;
+        place
     }
-    true
-}
 
-// Whether that is so of every slot.
-fn are_preceded(
-    keys: &[u64],
-    keyed: &[bool],
-    held: &[u32],
-    tree: &[u32],
-    roots: usize,
-    n: usize,
-) -> bool
-    requires room { Room (lent_keys keys keyed held) n }
-    requires grown { Grown (lent_keys keys keyed held) roots n tree.now }
-    ensures { Decides result ((j : ℕ) → j < n → Preceded (lent_keys keys.entry keyed.entry held.entry) n j) }
-{
-    let mut i = 0;
-    while i < n {
-        if is_preceded(keys, keyed, held, tree, roots, n, i) {
-            i += 1;
-        } else {
+    // Enters a slot. False where its position is too high for any key, where the walk meets a slot that holds the same, and where a slot without a key doesn't hold 0.
+    fn enter(&self, tree: &mut [u32], roots: usize, slot: usize) -> bool
+        requires room { (slot < self.now.n) × (roots + 2 * self.now.n ≤ length tree.old) }
+        requires grown { Grown (keys_of self.now) roots slot tree.old }
+        ensures { Entered (keys_of self.now) roots self.now.n slot tree.new result }
+    {
+        let position = self.held[slot];
+        if !self.keyed[slot] {
+            return position == 0;
+        }
+        if self.n <= position as usize {
             return false;
         }
+        let place = self.find(tree, roots, self.keys[slot], position);
+        if tree[place] != 0 {
+            return false;
+        }
+        tree[place] = (slot + 1) as u32;
+        true
     }
-    true
-}
 
-// Whether the positions are in order, by a tree that is still bare. Where all are 0 there is none before them to look for.
-fn ordered_by(
-    keys: &[u64],
-    keyed: &[bool],
-    held: &[u32],
-    tree: &mut [u32],
-    roots: usize,
-    n: usize,
-) -> bool
-    requires room { Room (lent_keys keys keyed held) n }
-    requires roots_nonzero { (0 < roots) × (roots + 2 * n ≤ length tree.old) × ((place : ℕ) → get_or tree.old place 0 ≡ 0) }
-    ensures { Decides result (Ordered (lent_keys keys.entry keyed.entry held.entry) n) }
-{
-    if enter_all(keys, keyed, held, tree, roots, n) {
-        if all_first(held, n) {
+    // Enters all slots, up to one that fails.
+    fn enter_all(&self, tree: &mut [u32], roots: usize) -> bool
+        requires room { roots + 2 * self.now.n ≤ length tree.old }
+        requires grown { Grown (keys_of self.now) roots 0 tree.old }
+        ensures { AllEntered (keys_of self.now) roots self.now.n tree.new result }
+    {
+        for slot in 0..self.n {
+            if !self.enter(tree, roots, slot) {
+                return false;
+            }
+        }
+        true
+    }
+
+    // Whether the position before a slot's own is held.
+    fn is_preceded(&self, tree: &[u32], roots: usize, slot: usize) -> bool
+        requires slot_lt_n { slot < self.now.n }
+        requires grown { Grown (keys_of self.now) roots self.now.n tree.now }
+        ensures { Decides result (Preceded (keys_of self.now) self.now.n slot) }
+    {
+        let position = self.held[slot];
+        if !self.keyed[slot] || position == 0 {
             return true;
         }
-        return are_preceded(keys, keyed, held, tree, roots, n);
+        let place = self.find(tree, roots, self.keys[slot], position - 1);
+        tree[place] != 0
     }
-    false
-}
 
-// ---- three sizes of the tree: the places of the largest are 768 kB, and to clear them for a few slots would take longer than the test. Each is in a function of its own,
-// so that the compiler lays their places over one another.
-
-// Places for 2,048 roots and 1,024 slots.
-fn few_places() -> [u32; 4096]
-    ensures { (place : ℕ) → get_or result place 0 ≡ 0 }
-{
-    [0; 4096]
-}
-
-// Whether the positions are in order, of at most 1,024 slots.
-fn ordered_few(keys: &[u64], keyed: &[bool], held: &[u32], n: usize) -> bool
-    requires { Room (lent_keys keys keyed held) n × (n ≤ 1024) }
-    ensures { Decides result (Ordered (lent_keys keys.entry keyed.entry held.entry) n) }
-{
-    let mut tree = few_places();
-    ordered_by(keys, keyed, held, &mut tree, 2048, n)
-}
-
-// Places for 16,384 roots and 8,192 slots.
-fn some_places() -> [u32; 32768]
-    ensures { (place : ℕ) → get_or result place 0 ≡ 0 }
-{
-    [0; 32768]
-}
-
-// Whether the positions are in order, of at most 8,192 slots.
-fn ordered_some(keys: &[u64], keyed: &[bool], held: &[u32], n: usize) -> bool
-    requires { Room (lent_keys keys keyed held) n × (n ≤ 8192) }
-    ensures { Decides result (Ordered (lent_keys keys.entry keyed.entry held.entry) n) }
-{
-    let mut tree = some_places();
-    ordered_by(keys, keyed, held, &mut tree, 16384, n)
-}
-
-// Places for 65,536 roots and 65,536 slots.
-fn many_places() -> [u32; 196608]
-    ensures { (place : ℕ) → get_or result place 0 ≡ 0 }
-{
-    [0; 196608]
-}
-
-// Whether the positions are in order.
-fn ordered_many(keys: &[u64], keyed: &[bool], held: &[u32], n: usize) -> bool
-    requires { Room (lent_keys keys keyed held) n }
-    ensures { Decides result (Ordered (lent_keys keys.entry keyed.entry held.entry) n) }
-{
-    let mut tree = many_places();
-    ordered_by(keys, keyed, held, &mut tree, 65536, n)
-}
-
-// Whether the positions are in order.
-pub(crate) fn in_order(keys: &[u64], keyed: &[bool], held: &[u32], n: usize) -> bool
-    requires { Room (lent_keys keys keyed held) n }
-    ensures { Decides result (Ordered (lent_keys keys.entry keyed.entry held.entry) n) }
-{
-    if n <= 1024 {
-        return ordered_few(keys, keyed, held, n);
+    // Whether that is so of every slot.
+    fn are_preceded(&self, tree: &[u32], roots: usize) -> bool
+        requires grown { Grown (keys_of self.now) roots self.now.n tree.now }
+        ensures { Decides result ((j : ℕ) → j < self.now.n → Preceded (keys_of self.now) self.now.n j) }
+    {
+        for slot in 0..self.n {
+            if !self.is_preceded(tree, roots, slot) {
+                return false;
+            }
+        }
+        true
     }
-    if n <= 8192 {
-        return ordered_some(keys, keyed, held, n);
+
+    // Whether the positions are in order, by a tree that is still bare. Where all are 0 there is none before them to look for.
+    fn ordered_by(&self, tree: &mut [u32], roots: usize) -> bool
+        requires room { (0 < roots) × (roots + 2 * self.now.n ≤ length tree.old) }
+        requires bare { (place : ℕ) → get_or tree.old place 0 ≡ 0 }
+        ensures { Decides result (Ordered (keys_of self.now) self.now.n) }
+    {
+        // A copy of the struct, so that no write to the tree has its fields read again.
+        let s = *self;
+        s.enter_all(tree, roots) && (s.all_first() || s.are_preceded(tree, roots))
     }
-    ordered_many(keys, keyed, held, n)
+
+    // By a tree of `PLACES` places. The call of each size is a function of its own, so that the compiler lays their places over one another.
+    fn ordered_in<const PLACES: usize>(&self, roots: usize) -> bool
+        requires { (0 < roots) × (roots + 2 * self.now.n ≤ PLACES) × (PLACES ≤ 196608) }
+        ensures { Decides result (Ordered (keys_of self.now) self.now.n) }
+    {
+        let mut tree = [0u32; PLACES];
+        self.ordered_by(&mut tree, roots)
+    }
+
+    // Whether the positions are in order. The places of the largest tree are 768 kB, and to clear them for a few slots would take longer than the test.
+    pub(crate) fn in_order(&self) -> bool
+        ensures { Decides result (Ordered (keys_of self.now) self.now.n) }
+    {
+        if self.n <= 1024 {
+            self.ordered_in::<4096>(2048)
+        } else if self.n <= 8192 {
+            self.ordered_in::<32768>(16384)
+        } else {
+            self.ordered_in::<196608>(65536)
+        }
+    }
 }

@@ -19,14 +19,14 @@ unfolding rotated
 rotated-length n seed v = fwht-length nan (Ieee.add binary32) (Ieee.sub binary32) (signed n seed v) ∙ signed-length n seed v
 
 module _ (n seed : ℕ) (v out : List Float) where
-  pub out-short : length out < n → out ≡ applied n seed v out
+  pub out_short : length out < n → out ≡ applied n seed v out
   unfolding applied
-  out-short l = rw (lt-leb n (length out) l)
+  out_short l = rw (lt-leb n (length out) l)
 
   module _ (fits : n ≤ length out) where
-    pub vector-long : n < length v → out ≡ applied n seed v out
+    pub vector_long : n < length v → out ≡ applied n seed v out
     unfolding applied
-    vector-long l = rw (le-leb n (length out) fits, lt-leb (length v) n l)
+    vector_long l = rw (le-leb n (length out) fits, lt-leb (length v) n l)
 
     module _ (holds : length v ≤ n) (small : n ≤ 2 ^ 63) where
       pub no_power : (padded_dim n ≡ n → ⊥) → out ≡ applied n seed v out

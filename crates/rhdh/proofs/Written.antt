@@ -39,10 +39,10 @@ module _ (v : List Float) (seed : ℕ) (o out : List Float) (s i : ℕ) (w : Wri
   pub written-length : length out ≡ length o
   written-length = ap length w.work ∙ length_over _ o (rw length-tab w.within)
 
-  pub written-more : (x g : Float) (t : ℕ) → i < length o → x ≡ get_or v i +0 → t ≡ next_state s → g ≡ sign (output (next_state s))
+  pub written_more : (x g : Float) (t : ℕ) → i < length o → x ≡ get_or v i +0 → t ≡ next_state s → g ≡ sign (output (next_state s))
       → Written v seed o (set out i (Ieee.mul binary32 x g)) t (i + 1)
   unfolding signed_entry sign_at
-  written-more x g t l e f k =
+  written_more x g t l e f k =
       record {
         within = omega arith;
         stream = rw (add-one i) (f ∙ ap next_state w.stream);

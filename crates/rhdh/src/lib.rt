@@ -1,39 +1,27 @@
 // The randomized Hadamard transform of vecq's rhdh.rs: a vector, padded to a power of two, with signs from a seed, and transformed.
 #![tactic(auto)]
 
-ghost use Rattle.std.specs.Prelude.{◌≡◌, length, get_or};
+ghost use Rattle.std.specs.Prelude.{◌≡◌, length};
 ghost use Rattle.padding.specs.Padded.{padded_dim};
-ghost use Rattle.pattern.specs.Binary32.{+0};
 ghost use Rattle.rhdh.specs.Rotation.{signed, rotated, applied};
 
 use signs::SignStream;
 
-// Entry i of v, and +0 past its end.
-fn entry_or_zero(v: &[f32], i: usize) -> f32
-    ensures { result ≡ get_or v.now i +0 }
-{
-    if i < v.len() {
-        return v[i];
-    }
-    0.0
-}
-
 // The entries of v, padded to the length of out, each times its sign.
+#[tactic(auto, using(crate::proofs::Written::written_none))]
 fn write_signed(v: &[f32], seed: u64, out: &mut [f32])
     ensures { out.new ≡ signed (length out.old) seed v.now }
 {
     let mut stream = SignStream::new(seed);
-    let mut i = 0;
-    while i < out.len() {
+    for i in 0..out.len() {
         let next = stream.next_sign();
-        let x = entry_or_zero(v, i);
-        out[i] = x * next.sign;
+        out[i] = v.get(i).copied().unwrap_or(0.0) * next.sign;
         stream = next.stream;
-        i += 1;
     }
 }
 
 // v rotated, into the whole of out.
+#[tactic(auto, unfolding(crate::specs::Rotation::rotated))]
 fn rotate(v: &[f32], seed: u64, out: &mut [f32])
     ensures { out.new ≡ rotated (length out.old) seed v.now }
 {
@@ -60,19 +48,13 @@ impl Rhdh {
     }
 
     // The rotated v, in the first `padded` places of out. Where v or out doesn't fit, or `padded` is no power of two, out is left as it is.
+    #[tactic(auto, using(crate::proofs::Applied::out_short, crate::proofs::Applied::vector_long, crate::proofs::Applied::no_power, crate::proofs::Applied::power))]
     pub fn apply(self, v: &[f32], out: &mut [f32])
         ensures { out.new ≡ applied self.padded self.seed v.now out.old }
     {
         let padded = self.padded;
-        if out.len() < padded {
-            return;
+        if padded <= out.len() && v.len() <= padded && padding::padded_dim(padded) == padded {
+            rotate(v, self.seed, &mut out[..padded]);
         }
-        if padded < v.len() {
-            return;
-        }
-        if padding::padded_dim(padded) != padded {
-            return;
-        }
-        rotate(v, self.seed, &mut out[0..padded]);
     }
 }

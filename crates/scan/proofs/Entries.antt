@@ -2,44 +2,19 @@
 use mathlib.Core.Path.{◌≡◌, refl, ap, subst, ◌∙◌}
 use mathlib.Core.Bool.{Bool, true, false, cond}
 use mathlib.Core.List.{List}
-use Prim.Native.Nat.{ℕ, ◌+◌, ◌-◌, ◌≤◌, ◌<◌}
+use Prim.Native.Nat.{ℕ, ◌≤◌, ◌<◌}
 use native.Mathlib.Decide.{dec_lt}
 use native.Mathlib.Omega.{arith}
 use borrow.Author.Tests.{le-leb, lt-leb}
-use lib.Dec.{ltb}
-use lib.ListN.{length, get_or, set, length-set}
-use lib.Seq.{get_or-set_same, get_or-set_other}
-use lib.Ieee.{Float, nan, binary32, of_bits}
-use Rattle.pattern.specs.Binary32.{◌⊕◌, ◌⊗◌}
+use lib.ListN.{length, get_or}
+use lib.Ieee.{Float, nan}
+use Rattle.pattern.specs.Binary32.{◌⊕◌}
 use Rattle.lists.specs.Lists.{tab, over}
 use Rattle.lists.proofs.Front.{over-ext}
-use Rattle.codes.specs.Slots.{block_at}
-use Rattle.codes.specs.Stage.{stage}
-use Rattle.score.specs.Score.{stage_score}
-use Rattle.scan.specs.Scan.{takes_part, stage_of, score_after, score_now, scanned}
-use Rattle.scan.specs.Groups.{raw_from, Rescored}
+use Rattle.scan.specs.Scan.{takes_part, score_after, score_now, scanned}
+use Rattle.scan.specs.Groups.{Rescored}
 
 module _ (g : ℕ → Float → Float) where
-  pub changed-none : (from : ℕ) (all : List Float) → Rescored g from from all all
-  changed-none from all = record { same = refl; inside = λ i p q. absurd (omega arith); outside = λ i n. refl }
-
-  pub changed-more : (from to : ℕ) (all mid : List Float) → Rescored g from to all mid → from ≤ to → to < length all → (x : Float) → x ≡ g to (get_or mid to nan)
-      → Rescored g from (to + 1) all (set mid to x)
-  changed-more from to all mid c l h x e =
-      let here : to < length mid = omega (arith, c.same) in
-      record {
-        same = length-set mid to x ∙ c.same;
-        inside =
-            λ i p q. elim (dec_lt i to) [
-              | yes r ↦ get_or-set_other mid to i x nan (λ d. omega arith) ∙ c.inside i p r
-              | no r ↦ rw (last i r q) (get_or-set_same mid to x nan here ∙ e ∙ ap (g to) (c.outside to (λ s t. omega arith)))
-            ];
-        outside = λ i n. get_or-set_other mid to i x nan (λ d. n (omega arith) (omega arith)) ∙ c.outside i (λ p q. n p (omega arith));
-      }
-    where
-      last : (i : ℕ) → (i < to → ⊥) → i < to + 1 → i ≡ to
-      last i r q = omega arith
-
   pub changed-join : (a b c : ℕ) (x y z : List Float) → Rescored g a b x y → Rescored g b c y z → a ≤ b → b ≤ c → Rescored g a c x z
   changed-join a b c x y z one two l m =
       record {
@@ -83,28 +58,3 @@ module _ (score : ℕ → Float) (marks : List ℕ) (second : Bool) where
       go : (b : Bool) → takes_part marks i ≡ b → cond b (cond second (old ⊕ score i) (score i)) old ≡ cond b (cond second (old ⊕ other i) (other i)) old
       go true m = rw (e m)
       go false m = refl
-
--- the k-th slot of a group
-module _ (w : ℕ) (sums : List Float) (scales marks : List ℕ) (second : Bool) (first k : ℕ) (all mid : List Float) where
-  abbrev pub group_entry : ℕ → Float → Float
-  group_entry = score_now (λ i. raw_from w sums (i - first) ⊗ of_bits binary32 (get_or scales i 0)) marks second
-
-  pub group-next : Rescored group_entry first (first + k) all mid → first + k < length all → (x : Float)
-      → x ≡ score_after (ltb 0 (get_or marks (first + k) 0)) second (raw_from w sums k ⊗ of_bits binary32 (get_or scales (first + k) 0)) (get_or mid (first + k) nan)
-      → Rescored group_entry first (first + (k + 1)) all (set mid (first + k) x)
-  group-next c h x e =
-      let back : first + k - first ≡ k = omega arith in
-      subst (λ (n : ℕ). Rescored group_entry first n all (set mid (first + k) x)) {x = first + k + 1} {y = first + (k + 1)} (omega arith)
-      (changed-more group_entry first (first + k) all mid c (omega arith) h x (rw back e))
-
--- a slot by itself
-module _ (w : ℕ) (cs query : List Float) (size : ℕ) (codes scales marks : List ℕ) (second : Bool) (i : ℕ) (all mid : List Float) where
-  abbrev plain_entry : ℕ → Float → Float
-  plain_entry = score_now (stage_of w cs query size codes scales) marks second
-
-  pub plain-next : Rescored plain_entry 0 i all mid → i < length all → (x : Float) (mark scale : ℕ) (block : List ℕ)
-      → mark ≡ get_or marks i 0 → scale ≡ get_or scales i 0 → block ≡ block_at size i codes
-      → x ≡ score_after (ltb 0 mark) second (stage_score w cs query (stage scale block)) (get_or mid i nan)
-      → Rescored plain_entry 0 (i + 1) all (set mid i x)
-  unfolding stage_of
-  plain-next c h x mark scale block m s b e = changed-more plain_entry 0 i all mid c (omega arith) h x (e ∙ rw (m, s, b))

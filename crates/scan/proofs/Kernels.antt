@@ -1,8 +1,8 @@
 -- The loops over a block: eight bytes, or eight codes, more.
 use mathlib.Core.Path.{◌≡◌, refl, sym, ap, ap₂, subst, ◌∙◌}
 use mathlib.Core.List.{List}
-use Prim.Native.Nat.{ℕ, suc, ◌+◌, ◌*◌, ◌/◌, ◌%◌, ◌^◌, ◌≤◌, ◌<◌}
-use native.Mathlib.Nat.{add_assoc, mul-suc}
+use Prim.Native.Nat.{ℕ, ◌+◌, ◌*◌, ◌/◌, ◌%◌, ◌^◌, ◌≤◌, ◌<◌}
+use native.Mathlib.Nat.{add_assoc, mul_comm}
 use native.Mathlib.Omega.{arith}
 use lib.ListN.{length, take, drop, get_or, replicate}
 use lib.Ieee.{Float, nan, binary32, of_bits}
@@ -30,15 +30,16 @@ module _ (evens odds pairs : List Float) (block : List ℕ) where
   abbrev pub bytes_terms : List Float
   bytes_terms = tab (byte_term evens odds pairs block) (length block)
 
-  pub bytes-again : (acc next : List Float) (i : ℕ) → InLanes 8 bytes_terms acc i → i + 8 ≤ length block
-      → next ≡ tab (λ j. get_or acc j nan ⊕ byte_term evens odds pairs block (i + j)) 8 → InLanes 8 bytes_terms next (i + 8)
-  bytes-again acc next i h l e =
-      lanes-again 8 bytes_terms acc i h next (omega (arith, length-tab (byte_term evens odds pairs block) (length block)))
-      (e ∙ tab-ext _ _ 8 (λ j k. ap (λ (x : Float). get_or acc j nan ⊕ x) (sym (get_or-tab (byte_term evens odds pairs block) (length block) (i + j) nan (omega arith)))))
+  pub bytes-again : (acc next : List Float) (g : ℕ) → InLanes 8 bytes_terms acc (g * 8) → g < length block / 8
+      → next ≡ tab (λ j. get_or acc j nan ⊕ byte_term evens odds pairs block (g * 8 + j)) 8 → InLanes 8 bytes_terms next ((g + 1) * 8)
+  bytes-again acc next g h l e =
+      subst (λ (n : ℕ). InLanes 8 bytes_terms next n) {x = g * 8 + 8} {y = (g + 1) * 8} (omega arith)
+      (lanes-again 8 bytes_terms acc (g * 8) h next (omega (arith, length-tab (byte_term evens odds pairs block) (length block)))
+      (e ∙ tab-ext _ _ 8 (λ j k. ap (λ (x : Float). get_or acc j nan ⊕ x) (sym (get_or-tab (byte_term evens odds pairs block) (length block) (g * 8 + j) nan (omega arith))))))
 
-  pub bytes-end : (acc : List Float) (i : ℕ) → InLanes 8 bytes_terms acc i → length block ≤ i → acc ≡ byte_lanes evens odds pairs block
+  pub bytes-end : (acc : List Float) (g : ℕ) → InLanes 8 bytes_terms acc (g * 8) → length block % 8 ≡ 0 → length block / 8 ≤ g → acc ≡ byte_lanes evens odds pairs block
   unfolding byte_lanes
-  bytes-end acc i h l = lanes_all 8 bytes_terms acc i h (omega (arith, length-tab (byte_term evens odds pairs block) (length block)))
+  bytes-end acc g h e l = lanes_all 8 bytes_terms acc (g * 8) h (omega (arith, length-tab (byte_term evens odds pairs block) (length block)))
 
 -- ---- 5 and 6 bits: the width is a parameter
 
@@ -97,35 +98,33 @@ module _ (w : ℕ) (pairs query : List Float) (block : List ℕ) (bytes : Below 
   unfolding wide_lanes
   wide-end acc i h l = lanes_all 4 terms acc i h (omega (arith, length-terms))
 
--- The sums of two blocks in one loop, at a width that the function fixes: what holds after i entries, where the next word is at the byte `at`.
+-- The sums of two blocks in one loop: what holds after g groups of eight entries.
 module _ (w : ℕ) (pairs query : List Float) (one other : List ℕ) where
-  abbrev pub Summing : (acc acc2 : List Float) → (i at : ℕ) → Type 0
-  Summing acc acc2 i at =
-      (i ≤ length query) × (i % 8 ≡ 0) × (at ≡ w * (i / 8))
-      × InLanes 4 (pair_products w pairs query one) acc i × InLanes 4 (pair_products w pairs query other) acc2 i
+  pub record Summing (acc acc2 : List Float) (g : ℕ) : Type 0 where
+    pub first : InLanes 4 (pair_products w pairs query one) acc (g * 8)
+    pub second : InLanes 4 (pair_products w pairs query other) acc2 (g * 8)
 
-  pub summing-none : Summing (replicate 4 (of_bits binary32 0)) (replicate 4 (of_bits binary32 0)) 0 0
-  summing-none = (omega arith, refl, omega arith, (lanes-none (pair_products w pairs query one)).1, (lanes-none (pair_products w pairs query other)).1)
+  pub summing-none : Summing (replicate 4 (of_bits binary32 0)) (replicate 4 (of_bits binary32 0)) 0
+  summing-none = record { first = (lanes-none (pair_products w pairs query one)).1; second = (lanes-none (pair_products w pairs query other)).1 }
 
-  module _ (acc acc2 next next2 : List Float) (i at word word2 : ℕ) (s : Summing acc acc2 i at) (l : i + 8 ≤ length query) where
-    at-word : (block : List ℕ) (n : ℕ) → n ≡ number 256 (take w (drop at block)) → n ≡ number 256 (take w (drop (w * (i / 8)) block))
-    at-word block n f = f ∙ ap (λ (z : ℕ). number 256 (take w (drop z block))) s.2
+  module _ (base : ℕ) (base-is : base ≡ 2 ^ (w + w)) where
+    abbrev after : (acc : List Float) → (word g : ℕ) → List Float
+    after acc word g = tab (λ j. get_or acc j nan ⊕ word_product base pairs query word (g * 8) j ⊕ word_product base pairs query word (g * 8) (4 + j)) 4
 
-    pub summing-more : Below 256 one → Below 256 other → word ≡ number 256 (take w (drop at one)) → word2 ≡ number 256 (take w (drop at other))
-        → next ≡ tab (λ j. get_or acc j nan ⊕ word_product (2 ^ (w + w)) pairs query word i j ⊕ word_product (2 ^ (w + w)) pairs query word i (4 + j)) 4
-        → next2 ≡ tab (λ j. get_or acc2 j nan ⊕ word_product (2 ^ (w + w)) pairs query word2 i j ⊕ word_product (2 ^ (w + w)) pairs query word2 i (4 + j)) 4
-        → Summing next next2 (i + 8) (at + w)
-    summing-more b b2 f f2 e e2 = (
-      l,
-      omega (arith, s.1),
-      ap (λ (z : ℕ). z + w) s.2 ∙ sym (mul-suc w (i / 8)) ∙ ap (λ (z : ℕ). w * z) {x = suc (i / 8)} {y = (i + 8) / 8} (omega arith),
-      wide-again w pairs query one b acc next i word s.3 s.1 l (at-word one word f) e,
-      wide-again w pairs query other b2 acc2 next2 i word2 s.4 s.1 l (at-word other word2 f2) e2,
-    )
+    step : (block : List ℕ) → Below 256 block → (acc next : List Float) (g word : ℕ) → InLanes 4 (pair_products w pairs query block) acc (g * 8) → g < length query / 8
+        → word ≡ number 256 (take w (drop (g * w) block)) → next ≡ after acc word g → InLanes 4 (pair_products w pairs query block) next ((g + 1) * 8)
+    step block b acc next g word h l f e =
+        let place : g * w ≡ w * (g * 8 / 8) = mul_comm g w ∙ ap (λ (z : ℕ). w * z) {x = g} {y = g * 8 / 8} (omega arith) in
+        subst (λ (n : ℕ). InLanes 4 (pair_products w pairs query block) next n) {x = g * 8 + 8} {y = (g + 1) * 8} (omega arith)
+        (wide-again w pairs query block b acc next (g * 8) word h (omega arith) (omega arith) (f ∙ ap (λ (z : ℕ). number 256 (take w (drop z block))) place) (rw base-is at e))
 
-  pub summing-all : Below 256 one → Below 256 other → (acc acc2 : List Float) (i at : ℕ) → Summing acc acc2 i at → length query ≤ i →
+    pub summing-more : (acc acc2 next next2 : List Float) (g word word2 : ℕ) → Summing acc acc2 g → g < length query / 8 → Below 256 one → Below 256 other
+        → word ≡ number 256 (take w (drop (g * w) one)) → word2 ≡ number 256 (take w (drop (g * w) other)) → next ≡ after acc word g → next2 ≡ after acc2 word2 g → Summing next next2 (g + 1)
+    summing-more acc acc2 next next2 g word word2 s l b b2 f f2 e e2 = record { first = step one b acc next g word s.first l f e; second = step other b2 acc2 next2 g word2 s.second l f2 e2 }
+
+  pub summing-all : Below 256 one → Below 256 other → length query % 16 ≡ 0 → (acc acc2 : List Float) (g : ℕ) → Summing acc acc2 g → length query / 8 ≤ g →
       (acc ≡ wide_lanes w pairs query one) × (acc2 ≡ wide_lanes w pairs query other)
-  summing-all b b2 acc acc2 i at s l = (wide-end w pairs query one b acc i s.3 l, wide-end w pairs query other b2 acc2 i s.4 l)
+  summing-all b b2 e acc acc2 g s l = (wide-end w pairs query one b acc (g * 8) s.first (omega arith), wide-end w pairs query other b2 acc2 (g * 8) s.second (omega arith))
 
 -- ---- how many sums there are
 

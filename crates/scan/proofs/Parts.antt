@@ -53,9 +53,6 @@ module _ (m : ℕ) (lanes_of : ℕ → List Float) (marks : List ℕ) (first man
   abbrev Sums : ℕ → List Float → Type 0
   Sums = Summed m lanes_of marks first many
 
-  pub summed-none : (sums : List Float) → Sums 0 sums
-  summed-none sums = record { each = λ k l. absurd (omega arith) }
-
   module _ (s : ℕ) (sums : List Float) (h : Sums s sums) where
     pub summed-skip : takes_part marks (first + s) ≡ false → Sums (s + 1) sums
     summed-skip e = record { each = below_more _ _ h.each (λ l t. absurd (subst T (sym t ∙ e) tt)) }
@@ -118,8 +115,3 @@ module _ (m : ℕ) (lanes_of : ℕ → List Float) (marks : List ℕ) (first man
         go true d t u f = rw f (summed-put-two size room room2)
         go false true t u f = rw f (summed-put-two size room room2)
         go false false t u f = rw f (summed-skip-two t u)
-
--- at the end all are there
-pub summed-all : (m : ℕ) (lanes_of : ℕ → List Float) (marks : List ℕ) (first many s : ℕ) (sums : List Float) → many ≤ s → Summed m lanes_of marks first many s sums
-    → Summed m lanes_of marks first many many sums
-summed-all m lanes_of marks first many s sums h t = record { each = λ k l p e. t.each k (omega arith) p e }

@@ -1,16 +1,16 @@
 -- Small steps: parts read and written entry by entry, bytes as a number, a slot's entry.
 use mathlib.Core.Path.{◌≡◌, sym, ap, ◌∙◌}
 use mathlib.Core.Bool.{Bool, true}
-use mathlib.Core.List.{List}
-use Prim.Native.Nat.{ℕ, suc, ◌+◌, ◌-◌, ◌*◌, ◌≤◌}
-use native.Mathlib.Nat.{add-zero}
-use native.Mathlib.Numerals.{add-one}
+use mathlib.Core.List.{List, ◌++◌, append_assoc}
+use Prim.Native.Nat.{ℕ, ◌+◌, ◌-◌, ◌*◌, ◌≤◌}
 use native.Mathlib.Omega.{arith}
 use borrow.Author.Tests.{eq-eqb, ne_eqb, lt-ltb, le-ltb}
 use lib.Dec.{ltb}
-use lib.ListN.{length, take, drop, get_or, set, length-drop}
-use lib.Seq.{sets, length-take-le, get_or-take, get_or-drop}
-use lib.Ieee.{Float, nan, binary32, of_bits}
+use borrow.Rule.Slice.PartMut.{put_mid}
+use lib.ListN.{length, take, drop, get_or, length-drop}
+use lib.Seq.{sets, sets-eq, length-take-le, get_or-take, get_or-drop}
+use lib.Ieee.{Float, binary32, of_bits}
+use Rattle.std.proofs.lemmas.List.{drop-drop}
 use Rattle.pattern.specs.Binary32.{◌⊕◌}
 use Rattle.lists.specs.Lists.{tab}
 use Rattle.lists.proofs.Laws.{tab-ext}
@@ -20,55 +20,28 @@ use Rattle.score.specs.Lanes.{bracketed}
 use Rattle.scan.specs.Scan.{score_after}
 use Rattle.scan.specs.Groups.{part_at, raw_from}
 
--- ---- a part, entry by entry
+-- ---- bytes as a number
 
-pub part-entries : {A : Type 0} (d : A) (n at : ℕ) (l : List A) → at + n ≤ length l → tab (λ i. get_or l (at + i) d) n ≡ take n (drop at l)
+part-entries : {A : Type 0} (d : A) (n at : ℕ) (l : List A) → at + n ≤ length l → tab (λ i. get_or l (at + i) d) n ≡ take n (drop at l)
 part-entries d n at l h =
     let long : n ≤ length (drop at l) = rw (length-drop at l) (omega arith) in
     sym (entries (take n (drop at l)) d n (length-take-le n (drop at l) long)
     ∙ tab-ext _ _ n (λ i k. get_or-take n (drop at l) i d k ∙ get_or-drop at l i d))
 
-module _ (l acc : List Float) (at : ℕ) where
-  abbrev a : ℕ → Float
-  a i = get_or acc i nan
-
-  two : at + 2 ≡ suc (suc at)
-  two = omega arith
-
-  three : at + 3 ≡ suc (suc (suc at))
-  three = omega arith
-
-  pub four-set : length acc ≡ 4 → set (set (set (set l at (a 0)) (at + 1) (a 1)) (at + 2) (a 2)) (at + 3) (a 3) ≡ sets l at acc
-  four-set e = rw (add-one at, two, three) (sym (ap (sets l at) (entries acc nan 4 e)))
-
-  four : at + 4 ≡ suc (suc (suc (suc at)))
-  four = omega arith
-
-  five : at + 5 ≡ suc (suc (suc (suc (suc at))))
-  five = omega arith
-
-  six : at + 6 ≡ suc (suc (suc (suc (suc (suc at)))))
-  six = omega arith
-
-  seven : at + 7 ≡ suc (suc (suc (suc (suc (suc (suc at))))))
-  seven = omega arith
-
-  pub eight-set : length acc ≡ 8
-      → set (set (set (set (set (set (set (set l at (a 0)) (at + 1) (a 1)) (at + 2) (a 2)) (at + 3) (a 3)) (at + 4) (a 4)) (at + 5) (a 5)) (at + 6) (a 6)) (at + 7) (a 7)
-      ≡ sets l at acc
-  eight-set e = rw (add-one at, two, three, four, five, six, seven) (sym (ap (sets l at) (entries acc nan 8 e)))
-
--- ---- bytes as a number
-
 module _ (l : List ℕ) (at : ℕ) where
   abbrev b : ℕ → ℕ
   b i = get_or l (at + i) 0
 
-  pub five-bytes : at + 5 ≤ length l → get_or l at 0 + 256 * b 1 + 65536 * b 2 + 16777216 * b 3 + 4294967296 * b 4 ≡ number 256 (take 5 (drop at l))
-  five-bytes h = rw (← part-entries 0 5 at l h, add-zero at) (omega arith)
-
   pub six-bytes : at + 6 ≤ length l → number 256 (take 5 (drop at l)) + 1099511627776 * b 5 ≡ number 256 (take 6 (drop at l))
   six-bytes h = rw (← part-entries 0 5 at l (omega arith), ← part-entries 0 6 at l h) (omega arith)
+
+-- ---- a part written
+
+pub put-is : {A : Type 0} → (at k : ℕ) (l vs : List A) → length vs ≡ k → at + k ≤ length l → put_mid at (at + k - at) l vs ≡ sets l at vs
+put-is {A} at k l vs e h =
+    let n : at + k - at ≡ length vs = omega arith in
+    ap (λ (z : List A). take at l ++ (vs ++ z)) (ap (λ (m : ℕ). drop m (drop at l)) n ∙ drop-drop (length vs) at l)
+    ∙ sym (sets-eq vs l at (omega arith) ∙ append_assoc (take at l) vs (drop (at + length vs) l))
 
 -- ---- the raw score of a slot of a group
 

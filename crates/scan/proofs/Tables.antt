@@ -1,14 +1,14 @@
 -- The tables that are made once: a loop turn writes two places.
-use mathlib.Core.Path.{◌≡◌, subst, ◌∙◌}
+use mathlib.Core.Path.{◌≡◌, ◌∙◌}
 use mathlib.Core.Logic.{◌≢◌}
 use mathlib.Core.List.{List}
-use Prim.Native.Nat.{ℕ, ◌+◌, ◌*◌, ◌/◌, ◌%◌, ◌^◌, ◌≤◌, ◌<◌}
+use Prim.Native.Nat.{ℕ, ◌+◌, ◌*◌, ◌/◌, ◌%◌, ◌^◌, ◌<◌}
 use native.Mathlib.Omega.{arith}
 use borrow.Author.Count.{below_more}
 use lib.ListN.{length, get_or, set, length-set}
 use lib.Seq.{get_or-set_same, get_or-set_other}
 use lib.Ieee.{Float, nan}
-use Rattle.scan.specs.Pairs.{Paired, Halved}
+use Rattle.scan.specs.Pairs.{Paired}
 
 -- two neighbouring places written, and read again
 abbrev two : List Float → ℕ → (low high : Float) → List Float
@@ -25,9 +25,6 @@ module _ (l : List Float) (x : ℕ) (a b : Float) (h : x * 2 + 1 < length l) whe
   two-other i p q = get_or-set_other (set l (x * 2) a) (x * 2 + 1) i b nan q ∙ get_or-set_other l (x * 2) i a nan p
 
 module _ (w : ℕ) (cs l : List Float) (x : ℕ) where
-  pub paired_none : Paired w cs l 0
-  paired_none = record { low = λ y k. absurd (omega arith); high = λ y k. absurd (omega arith) }
-
   pub paired-more : Paired w cs l x → x * 2 + 1 < length l → Paired w cs (two l x (get_or cs (x % 2 ^ w) nan) (get_or cs (x / 2 ^ w) nan)) (x + 1)
   paired-more p h =
       record {
@@ -39,21 +36,3 @@ module _ (w : ℕ) (cs l : List Float) (x : ℕ) where
   module _ (levels : ℕ) (is : levels ≡ 2 ^ w) where
     pub paired-next : Paired w cs l x → x * 2 + 1 < length l → Paired w cs (set (set l (x * 2) (get_or cs (x % levels) nan)) (x * 2 + 1) (get_or cs (x / levels) nan)) (x + 1)
     paired-next p h = rw is (paired-more p h)
-
-    pub paired-end : Paired w cs l x → x ≤ levels * levels → levels * levels ≤ x → Paired w cs l (2 ^ w * 2 ^ w)
-    paired-end p h k = rw (← is) (subst (λ (n : ℕ). Paired w cs l n) {x = x} {y = levels * levels} (omega arith) p)
-
-module _ (query evens odds : List Float) (i : ℕ) where
-  pub halved_none : Halved query evens odds 0
-  halved_none = record { even = λ y k. absurd (omega arith); odd = λ y k. absurd (omega arith) }
-
-  pub halved-end : (many : ℕ) → Halved query evens odds i → i ≤ many → many ≤ i → Halved query evens odds many
-  halved-end many p h k = subst (λ (n : ℕ). Halved query evens odds n) {x = i} {y = many} (omega arith) p
-
-  pub halved-more : Halved query evens odds i → i < length evens → i < length odds
-      → Halved query (set evens i (get_or query (i * 2) nan)) (set odds i (get_or query (i * 2 + 1) nan)) (i + 1)
-  halved-more p h k =
-      record {
-        even = below_more _ _ (λ y l. get_or-set_other evens i y _ nan (λ e. omega arith) ∙ p.even y l) (get_or-set_same evens i _ nan h);
-        odd = below_more _ _ (λ y l. get_or-set_other odds i y _ nan (λ e. omega arith) ∙ p.odd y l) (get_or-set_same odds i _ nan k);
-      }

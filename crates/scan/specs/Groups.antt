@@ -1,5 +1,5 @@
 -- Words of the contracts on the way: the running sums of a group of slots, and the scores that are made of them.
-use Rattle.std.specs.Prelude.{◌≡◌, true, cond, List, ℕ, ◌+◌, ◌*◌, ◌/◌, ◌%◌, ◌^◌, ◌≤◌, ◌<◌, eqb, length, take, drop, get_or, Float}
+use Rattle.std.specs.Prelude.{◌≡◌, true, cond, List, ℕ, ◌+◌, ◌*◌, ◌%◌, ◌^◌, ◌≤◌, ◌<◌, eqb, length, take, drop, get_or, Float}
 use Rattle.std.specs.Float.{nan, binary32}
 use Rattle.std.specs.Float.Ieee.{of_bits}
 use Rattle.pattern.specs.Binary32.{◌⊕◌, ◌⊗◌, +0}
@@ -45,16 +45,6 @@ pub record Rescored (g : ℕ → Float → Float) (from to : ℕ) (all next : Li
   pub same : length next ≡ length all
   pub inside : (i : ℕ) → from ≤ i → i < to → get_or next i nan ≡ g i (get_or all i nan)
   pub outside : (i : ℕ) → (from ≤ i → i < to → ⊥) → get_or next i nan ≡ get_or all i nan
-
--- The sizes of tables, query and blocks that the groups need.
-pub record Fit (w query size evens odds pairs : ℕ) : Type 0 where
-  pub from : 4 ≤ w
-  pub to : w ≤ 6
-  pub groups : query % 16 ≡ 0
-  pub block : size ≡ query / 8 * w
-  pub evens-there : query / 2 ≤ evens
-  pub odds-there : query / 2 ≤ odds
-  pub pairs-there : 8192 ≤ pairs
 
 -- What the fast way needs of its arguments: a width that there is with its centroids, a query of whole groups of 16 entries, and arrays that have n slots whole.
 pub record Grouped (w centroids query size codes scales marks n : ℕ) : Type 0 where

@@ -2,3 +2,4 @@
 pub mod Scan
 pub mod Pairs
 pub mod Groups
+pub mod Stages

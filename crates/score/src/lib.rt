@@ -2,7 +2,7 @@
 #![tactic(auto)]
 
 // A score, or the number of the refusal.
-#[derive(Drop)]
+#[derive(Clone, Copy, Debug, PartialEq, Drop)]
 pub enum Scored {
     Score(f32),
     Refused(u8),

@@ -1,30 +1,22 @@
--- The start by the seed and the sign by the output's top bit; and that every state of a sign stream is above 0 and below 2 ^ 64.
+-- The sign by the output's top bit; and that every state of a sign stream is above 0 and below 2 ^ 64.
 use Rattle.std.proofs.Common.{◌≡◌, ℕ, zero, suc, ◌+◌, ◌*◌, ◌/◌, ◌%◌, ◌^◌, ◌<◌, ◌≤◌, true, false, [], ◌∷◌, get_or, pos, sym, refl, ap, ◌∙◌, suc-le-suc, zero-le, lt_of_le_of_lt, mod-lt, mod-eq_of_lt, zero-lt-suc, mul-le-mul_left, pow-suc, arith, lit<, pow_pos, pow_mono, le-ltb, lt-ltb, ne_eqb}
 use native.Mathlib.Nat.{mod-one, div-eq_of_lt, mul-mod_left}
 use native.Mathlib.Decide.{dec_lt}
 use lib.Bits.{bit_xor, xor_lt, xor_add_and, and_le_l, and_le_r}
-use lib.Ieee.{Float, fin}
+use lib.Ieee.{Float, fin, binary32, neg, of_bits}
 use lib.Pow.{shr_le, split, mod-mod-pow}
-use Rattle.signs.specs.Signs.{start, xor_right, xor_left, next_state, output, sign, state}
+use Rattle.signs.specs.Signs.{start, xor_right, xor_left, next_state, sign, state}
 
--- ---- the start, and the sign of an output o
-
-pub start-zero : (seed : ℕ) → seed ≡ 0 → 0x9E37_79B9_7F4A_7C15 ≡ start seed
-unfolding start
-start-zero seed e = rw e
-
-pub start-other : (seed : ℕ) → (seed ≡ 0 → ⊥) → seed ≡ start seed
-unfolding start
-start-other seed n = rw (ne_eqb seed 0 n)
+-- ---- the sign of an output o
 
 -- the sign as the entry of two that the top bit numbers
-pub sign-by-top : (d : Float) (s o : ℕ) → o ≡ output s → get_or (fin true 1 (pos 0) ∷ fin false 1 (pos 0) ∷ []) (o / 2 ^ 63) d ≡ sign (output s)
-unfolding sign output
-sign-by-top d s o e = go (dec_lt o (2 ^ 63))
+pub sign_by_top : (d : Float) (o : ℕ) → o < 2 ^ 64 → get_or (neg (of_bits binary32 0x3F80_0000) ∷ of_bits binary32 0x3F80_0000 ∷ []) (o / 2 ^ 63) d ≡ sign o
+unfolding sign neg of_bits
+sign_by_top d o h = go (dec_lt o (2 ^ 63))
   where
-    go : Dec (o < 2 ^ 63) → get_or (fin true 1 (pos 0) ∷ fin false 1 (pos 0) ∷ []) (o / 2 ^ 63) d ≡ sign (output s)
-    go (yes l) = rw (← e, lt-ltb o (2 ^ 63) l, div-eq_of_lt l)
-    go (no l) = let top : o / 2 ^ 63 ≡ 1 = omega (arith, e) in rw (← e, le-ltb o (2 ^ 63) (omega arith), top)
+    go : Dec (o < 2 ^ 63) → get_or (fin true 1 (pos 0) ∷ fin false 1 (pos 0) ∷ []) (o / 2 ^ 63) d ≡ sign o
+    go (yes l) = rw (lt-ltb o (2 ^ 63) l, div-eq_of_lt l)
+    go (no l) = let top : o / 2 ^ 63 ≡ 1 = omega arith in rw (le-ltb o (2 ^ 63) (omega arith), top)
 
 -- ---- a step stays below 2 ^ 64
 
@@ -75,8 +67,9 @@ step-pos s p h =
 -- ---- so no state is 0
 
 start-range : (seed : ℕ) → seed < 2 ^ 64 → (0 < start seed) × (start seed < 2 ^ 64)
-start-range zero h = rw (← start-zero 0 refl) (lit< tt, lit< tt)
-start-range (suc n) h = rw (← start-other (suc n) (λ e. omega arith)) (zero-lt-suc n, h)
+unfolding start
+start-range zero h = (lit< tt, lit< tt)
+start-range (suc n) h = rw (ne_eqb (suc n) 0 (λ e. omega arith)) (zero-lt-suc n, h)
 
 pub state-range : (seed n : ℕ) → seed < 2 ^ 64 → (0 < state seed n) × (state seed n < 2 ^ 64)
 state-range seed zero h = start-range seed h

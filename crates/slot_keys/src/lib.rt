@@ -9,28 +9,19 @@ ghost use Rattle.slot_keys.specs.Has.{slot_has};
 pub fn is_keyed(keyed: &[bool], slot: usize) -> bool
     ensures { result ≡ get_or keyed.now slot false }
 {
-    if slot < keyed.len() {
-        return keyed[slot];
-    }
-    false
+    keyed.get(slot).copied().unwrap_or(false)
 }
 
 // The word that stands for a slot's key, where it has one.
 pub fn key_word(keys: &[u64], slot: usize) -> u64
     ensures { result ≡ get_or keys.now slot 0 }
 {
-    if slot < keys.len() {
-        return keys[slot];
-    }
-    0
+    keys.get(slot).copied().unwrap_or(0)
 }
 
 // Whether a slot has this key.
 pub fn has_key(keys: &[u64], keyed: &[bool], slot: usize, key: u64) -> bool
     ensures { result ≡ slot_has keys.now keyed.now key slot }
 {
-    if key_word(keys, slot) == key {
-        return is_keyed(keyed, slot);
-    }
-    false
+    key_word(keys, slot) == key && is_keyed(keyed, slot)
 }

@@ -12,7 +12,8 @@ use lib.Ieee.Bits.{of_bits-to_bits, to_bits-of_bits, to_bits-lt, nan_bits_is}
 use lib.Ieee.Fits.{up_pos}
 use borrow.Author.Tests.{ne_eqb, ltb-true}
 use Rattle.half.specs.Binary.{infinity}
-use Rattle.pattern.proofs.Nan.{nan_pattern, number-pattern}
+use Rattle.std.proofs.lemmas.Float.{not_nan_f32_bits}
+use Rattle.pattern.proofs.Nan.{nan_pattern}
 use Rattle.sqrt.specs.Root.{radicand, nearest_root, root_bits, square_root, NearestRoot, SquareRoot}
 use Rattle.sqrt.proofs.Round.{nearest-root}
 use Rattle.sqrt.proofs.Cases.{at-nan, at_zero, at-past, at-infinity, at-positive}
@@ -126,7 +127,7 @@ module _ (x : Float) (held : T (fits binary32 x)) where
   finite : (r : ℕ) → r < infinity 23 8 → root_bits b ≡ r → to_bits binary32 (square_root x) ≡ r
   finite r h e =
       ap (to_bits binary32) (through r e)
-      ∙ to_bits-of_bits binary32 r (omega arith) (subst (λ (t : Bool). T (not t)) (nan_bits_is binary32 r) (number-pattern r (omega arith)))
+      ∙ to_bits-of_bits binary32 r (omega arith) (subst (λ (t : Bool). T (not t)) (nan_bits_is binary32 r) (not_nan_f32_bits r (omega arith)))
 
   pub square-root : SquareRoot x (square_root x)
   square-root = record {

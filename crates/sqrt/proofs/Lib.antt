@@ -3,6 +3,5 @@ pub mod Squares
 pub mod Nearest
 pub mod Scale
 pub mod Round
-pub mod Digits
 pub mod Cases
 pub mod Floats

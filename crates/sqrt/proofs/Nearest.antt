@@ -7,11 +7,12 @@ use native.Mathlib.Nat.{le_trans, le_of_eq, le_of_lt, le_of_suc-le-suc, lt_of_no
 use native.Mathlib.Decide.{dec_le}
 use native.Mathlib.Omega.{arith}
 use borrow.Author.Tests.{lt-ltb, le-ltb}
+use Rattle.std.proofs.lemmas.Nat.{mul-pow}
 use Rattle.half.specs.Binary.{infinity}
 use Rattle.half.specs.Nearest.{value}
 use Rattle.half.proofs.Rounding.{value-lt, value-le}
 use Rattle.sqrt.specs.Root.{root_reaches, last_passing, nearest_root, NearestRoot}
-use Rattle.sqrt.proofs.Squares.{square-times, square_le, square-lt}
+use Rattle.sqrt.proofs.Squares.{square_le, square-lt}
 
 -- ---- `last_passing` gives the number up to which the test is passed and after which it fails
 module _ (passes : ℕ → Bool) (g : ℕ) (to : (c : ℕ) → c ≤ g → passes c ≡ true) (after : (c : ℕ) → g < c → passes c ≡ false) where
@@ -59,13 +60,13 @@ module _ (n g : ℕ) (positive : 0 < g) (finite : suc g < infinity 23 8) (low : 
     positive = positive;
     finite = omega arith;
     above = λ c l. lt_of_lt_of_le h (square_le (omega (arith, value-le 23 (suc g) c (pattern_lt g c l))));
-    below = λ c l. lt_of_lt_of_le (square-lt {b = 2 * value 23 g} (omega arith)) (le_trans (le_of_eq (square-times 2 (value 23 g))) (mul-le-mul_left 4 low));
+    below = λ c l. lt_of_lt_of_le (square-lt {b = 2 * value 23 g} (omega arith)) (le_trans (le_of_eq (mul-pow 2 (value 23 g) 2)) (mul-le-mul_left 4 low));
   }
 
   pub at-upper : (value 23 g + value 23 (suc g)) ^ 2 < 4 * n → NearestRoot n (suc g)
   at-upper h = record {
     positive = zero-lt-suc g;
     finite = finite;
-    above = λ c l. lt_of_lt_of_le (mul-lt-mul_of_pos_left high (zero-lt-suc 3)) (le_trans (le_of_eq (sym (square-times 2 (value 23 (suc g))))) (square_le (omega arith)));
+    above = λ c l. lt_of_lt_of_le (mul-lt-mul_of_pos_left high (zero-lt-suc 3)) (le_trans (le_of_eq (sym (mul-pow 2 (value 23 (suc g)) 2))) (square_le (omega arith)));
     below = λ c l. lt_of_le_of_lt (square_le (omega (arith, value-le 23 c g (le_of_suc-le-suc (pattern_lt c (suc g) l))))) h;
   }

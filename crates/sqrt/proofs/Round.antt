@@ -8,13 +8,14 @@ use native.Mathlib.Omega.{arith}
 use lib.Dec.{lit≤}
 use lib.Pow.{pow_pos}
 use lib.Count.{count_leading_zeros}
+use Rattle.std.proofs.lemmas.Nat.{mul-pow}
 use Rattle.half.specs.Binary.{infinity}
 use Rattle.half.specs.Nearest.{value}
 use Rattle.half.proofs.NearestLaw.{value-at}
 use Rattle.half.proofs.Digits.{shift_of}
 use Rattle.sqrt.specs.Root.{radicand, nearest_root, NearestRoot}
 use Rattle.sqrt.specs.Work.{Normal, Scaled, WholeRoot}
-use Rattle.sqrt.proofs.Squares.{square, square-times, square-lt, root-lt}
+use Rattle.sqrt.proofs.Squares.{square, square-lt, root-lt}
 use Rattle.sqrt.proofs.Nearest.{nearest-is, at-lower, at-upper}
 use Rattle.sqrt.proofs.Scale.{four-to, paired_is, normal-is, shifted-normal, subnormal-is}
 
@@ -41,7 +42,7 @@ module _ (n p k q : ℕ) (s : Scaled n p k) (w : WholeRoot p q) where
 
   -- their squares, beside n and 4 * n
   scaled : (v a : ℕ) → v ≡ a * 2 ^ k → v ^ 2 ≡ a ^ 2 * 4 ^ k
-  scaled v a e = ap (λ (z : ℕ). z ^ 2) e ∙ square-times a (2 ^ k) ∙ ap (λ (z : ℕ). a ^ 2 * z) (sym (four-to k))
+  scaled v a e = ap (λ (z : ℕ). z ^ 2) e ∙ mul-pow a (2 ^ k) 2 ∙ ap (λ (z : ℕ). a ^ 2 * z) (sym (four-to k))
 
   four-pos : 0 < 4 ^ k
   four-pos = subst (λ (z : ℕ). 0 < z) (sym (four-to k)) (square-lt (pow_pos k))

@@ -4,15 +4,16 @@ use Prim.Native.Nat.{ℕ, zero, suc, ◌+◌, ◌-◌, ◌*◌, ◌/◌, ◌%◌
 use native.Mathlib.Nat.{le_trans, lt_of_lt_of_le, mod-eq_of_lt, mul-le-mul_left, mul-le-mul_right, pow-suc}
 use native.Mathlib.Omega.{arith}
 use lib.Pow.{pow-add, pow_mono, shl_lt, shl_exact}
+use Rattle.std.proofs.lemmas.Nat.{mul-pow}
 use Rattle.half.specs.Binary.{magnitude}
 use Rattle.half.proofs.Digits.{weight, Shift}
 use Rattle.sqrt.specs.Root.{radicand}
 use Rattle.sqrt.specs.Work.{Normal, Scaled}
-use Rattle.sqrt.proofs.Squares.{square, square-times}
+use Rattle.sqrt.proofs.Squares.{square}
 
 pub four-to : (k : ℕ) → 4 ^ k ≡ (2 ^ k) ^ 2
 four-to zero = refl
-four-to (suc k) = pow-suc 4 k ∙ ap (λ (z : ℕ). z * 4) (four-to k) ∙ sym (square-times (2 ^ k) 2) ∙ ap (λ (z : ℕ). z ^ 2) (sym (pow-suc 2 k))
+four-to (suc k) = pow-suc 4 k ∙ ap (λ (z : ℕ). z * 4) (four-to k) ∙ sym (mul-pow (2 ^ k) 2 2) ∙ ap (λ (z : ℕ). z ^ 2) (sym (pow-suc 2 k))
 
 weights : (m i j h : ℕ) → i + j ≡ h → m * 2 ^ i * 2 ^ j ≡ m * 2 ^ h
 weights m i j h e = weight m i j ∙ ap (λ (z : ℕ). m * 2 ^ z) e

@@ -1,14 +1,11 @@
 -- Squares of whole numbers.
-use mathlib.Core.Path.{◌≡◌, sym, ap₂, ◌∙◌}
+use mathlib.Core.Path.{◌≡◌}
 use Prim.Native.Nat.{ℕ, ◌*◌, ◌^◌, ◌≤◌, ◌<◌}
-use native.Mathlib.Nat.{lt_of_not-le, not-le_of_lt, mul-mul-mul_comm, one-mul, pow-zero, pow-suc, pow-le-pow_left, pow-lt-pow_left}
+use native.Mathlib.Nat.{lt_of_not-le, not-le_of_lt, one-mul, pow-zero, pow-suc, pow-le-pow_left, pow-lt-pow_left}
 use native.Mathlib.Omega.{arith}
 
 pub square : (a : ℕ) → a ^ 2 ≡ a * a
 square a = rw (pow-suc a 1, pow-suc a 0, pow-zero a, one-mul a)
-
-pub square-times : (a b : ℕ) → (a * b) ^ 2 ≡ a ^ 2 * b ^ 2
-square-times a b = square (a * b) ∙ mul-mul-mul_comm a b a b ∙ sym (ap₂ (λ (x y : ℕ). x * y) (square a) (square b))
 
 pub square_le : {a b : ℕ} → a ≤ b → a ^ 2 ≤ b ^ 2
 square_le h = pow-le-pow_left h 2

@@ -12,19 +12,14 @@ struct Radicand {
     k: u32,
 }
 
-fn wide(x: u32) -> u64
-    ensures { result ≡ x }
-{
-    x as u64
-}
-
 // m * 2^(23 + e), where m has 24 digits: the factors 2 make 4^k in pairs, 23 of them stay with m, and one more where e is odd.
+#[tactic(auto, using(crate::proofs::Scale::paired_is))]
 fn paired(m: u32, e: u32) -> Radicand
     requires { Normal m e }
     ensures { Scaled (m * 2 ^ (23 + e)) result.p result.k }
 {
     Radicand {
-        p: wide(m) << (23 + e % 2),
+        p: (m as u64) << (23 + e % 2),
         k: e / 2,
     }
 }
@@ -39,7 +34,7 @@ fn radicand_of(b: u32) -> Radicand
     if 0 < exponent {
         return paired(0x80_0000 + fraction, exponent + 125);
     }
-    let up = u32::leading_zeros(fraction) - 8;
+    let up = fraction.leading_zeros() - 8;
     paired(fraction << up, 126 - up)
 }
 
@@ -49,10 +44,8 @@ fn whole_root(p: u64) -> u64
     ensures { WholeRoot p result }
 {
     let mut q = 0u64;
-    let mut digits = 24u64;
-    while 0 < digits {
-        digits -= 1;
-        let next = q + (1 << digits);
+    for digit in (0..24u32).rev() {
+        let next = q + (1 << digit);
         if next * next <= p {
             q = next;
         }
@@ -66,10 +59,9 @@ fn positive_root(b: u32) -> u32
     requires { (0 < b) × (b < 0x7F80_0000) }
     ensures { result ≡ nearest_root (radicand b) }
 {
-    let n = radicand_of(b);
-    let p = n.p;
+    let Radicand { p, k } = radicand_of(b);
     let q = whole_root(p);
-    let lower = (n.k << 23) + (q as u32);
+    let lower = (k << 23) + (q as u32);
     if q < p - q * q {
         return lower + 1;
     }
@@ -77,6 +69,7 @@ fn positive_root(b: u32) -> u32
 }
 
 // The pattern of the root of any pattern.
+#[tactic(auto, unfolding(crate::specs::Root::root_bits))]
 fn root_bits(b: u32) -> u32
     ensures { result ≡ root_bits b }
 {

@@ -1,21 +1,14 @@
 -- The test `rotatable` of `padding`, and what follows where it passes.
-use mathlib.Core.Path.{◌≡◌, sym, ◌∙◌}
-use mathlib.Core.Bool.{Bool, true, false, not, ◌&&◌}
+use mathlib.Core.Path.{◌≡◌}
+use mathlib.Core.Bool.{true, ◌&&◌}
 use Prim.Native.Nat.{ℕ, ◌≤◌}
 use native.Mathlib.Omega.{arith}
-use borrow.Author.Tests.{le-leb, leb-true, not-true, not-false}
+use borrow.Author.Tests.{le-leb, leb-true}
 use lib.Dec.{leb}
 use Rattle.lists.proofs.Tests.{both}
 use Rattle.padding.specs.Padded.{padded_dim}
 use Rattle.padding.proofs.Powers.{padded-least}
 use Rattle.padding.specs.Rotatable.{rotatable}
-
--- a call that answers a test, after the test `!` of its answer
-pub says-no : {r t : Bool} → r ≡ t → not r ≡ true → t ≡ false
-says-no {r} e h = sym e ∙ not-true r h
-
-pub says-yes : {r t : Bool} → r ≡ t → not r ≡ false → t ≡ true
-says-yes {r} e h = sym e ∙ not-false r h
 
 pub record Rotatable (working entries places : ℕ) : Type 0 where
   pub some : 1 ≤ working

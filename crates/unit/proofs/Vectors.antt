@@ -1,9 +1,9 @@
 -- The norm of a vector, its rotation, and a prepared query.
-use mathlib.Core.Path.{◌≡◌, sym, ap, ◌∙◌}
+use mathlib.Core.Path.{◌≡◌, sym, ◌∙◌}
 use mathlib.Core.Bool.{true, false}
 use mathlib.Core.List.{List, ◌++◌}
-use Prim.Native.Nat.{ℕ, ◌-◌, ◌^◌, ◌≤◌}
-use native.Mathlib.Nat.{sub-zero, le_trans, le_refl}
+use Prim.Native.Nat.{ℕ, ◌^◌, ◌≤◌}
+use native.Mathlib.Nat.{le_trans, le_refl}
 use native.Mathlib.Omega.{arith}
 use borrow.Author.Tests.{le-leb, eq-eqb}
 use lib.ListN.{length, take, drop}
@@ -17,7 +17,6 @@ use Rattle.padding.specs.Padded.{exponent, padded_dim, is_power_of_two}
 use Rattle.rhdh.specs.Rotation.{rotated, applied}
 use Rattle.padding.proofs.Powers.{padded-least, padded-pow, padded-fixed}
 use Rattle.rhdh.proofs.Applied.{rotated-length}
-use Rattle.vectors.specs.Vectors.{divided}
 use Rattle.vectors.proofs.Filling.{length-divided}
 use Rattle.unit.specs.Unit.{norm, unit, rotated_by, rnorm, prepared}
 use Rattle.padding.specs.Rotatable.{rotatable}
@@ -30,10 +29,6 @@ module _ (xs : List Float) (s r : Float) (e : s ≡ sum_squares xs) (root : Squa
   pub norm-is : r ≡ norm xs
   unfolding norm
   norm-is = rw (← e) root.is
-
-  pub unit-is : (out : List Float) → out ≡ divided r xs → out ≡ unit xs
-  unfolding unit
-  unit-is out d = d ∙ ap (λ z. divided z xs) norm-is
 
 length-unit : (xs : List Float) → length (unit xs) ≡ length xs
 unfolding unit
@@ -55,21 +50,21 @@ applied-padded working seed u out m l room =
     rw (le-leb (padded_dim working) (length out) room, le-leb (length u) (padded_dim working) (le_trans l p.reaches), eq-eqb (2 ^ exponent (padded_dim working)) (padded_dim working) (padded-fixed (padded_dim working) small fixed))
 
 module _ (working seed : ℕ) (v out : List Float) where
-  pub not-rotated : rotatable working (length v) (length out) ≡ false → out ≡ rotated_into working seed v out
+  pub not_rotated : rotatable working (length v) (length out) ≡ false → out ≡ rotated_into working seed v out
   unfolding rotated_into
-  not-rotated e = rw e
+  not_rotated e = rw e
 
   module _ (r : rotatable working (length v) (length out) ≡ true) where
     has : Rotatable working (length v) (length out)
     has = rotatable-of working (length v) (length out) r
 
     -- by the working entries as they are lent
-    pub rotated-is : (next : List Float) → next ≡ applied (padded_dim (length (take (working - 0) v))) seed (unit (take (working - 0) v)) out → next ≡ rotated_into working seed v out
+    pub rotated_is : (next : List Float) → next ≡ applied (padded_dim (length (take working v))) seed (unit (take working v)) out → next ≡ rotated_into working seed v out
     unfolding rotated_into rotated_by
-    rotated-is next e =
+    rotated_is next e =
         let n = length-take-le working v has.has in
         e
-        ∙ rw (sub-zero working, n, r)
+        ∙ rw (n, r)
         (applied-padded working seed (unit (take working v)) out has.most (rw (length-unit (take working v), n) (le_refl working)) has.room)
 
     -- where `out` has just the places of the rotated vector
@@ -84,21 +79,21 @@ module _ (working entries p : ℕ) (out : List Float) (r : rotatable working ent
   has-places : Rotatable working entries (length out)
   has-places = rotatable-of working entries (length out) r
 
-  pub places-fit : p ≤ length out
-  places-fit = rw e has-places.room
+  pub places_fit : p ≤ length out
+  places_fit = rw e has-places.room
 
-  pub places-all : length (take (p - 0) out) ≡ padded_dim working
-  places-all = rw (sub-zero p) (length-take-le p out places-fit ∙ e)
+  pub places_all : length (take p out) ≡ padded_dim working
+  places_all = length-take-le p out places_fit ∙ e
 
-  pub places-rotatable : rotatable working entries (length (take (p - 0) out)) ≡ true
-  places-rotatable = is-rotatable (record { some = has-places.some; most = has-places.most; has = has-places.has; room = rw places-all (le_refl (padded_dim working)) })
+  pub places_rotatable : rotatable working entries (length (take p out)) ≡ true
+  places_rotatable = is-rotatable (record { some = has-places.some; most = has-places.most; has = has-places.has; room = rw places_all (le_refl (padded_dim working)) })
 
 module _ (working seed : ℕ) (q out : List Float) where
-  pub not-prepared : rotatable working (length q) (length out) ≡ false → query (of_bits binary32 0) out ≡ prepared_into working seed q out
+  pub not_prepared : rotatable working (length q) (length out) ≡ false → query (of_bits binary32 0) out ≡ prepared_into working seed q out
   unfolding prepared_into of_bits
-  not-prepared e = rw e
+  not_prepared e = rw e
 
-  pub prepared-is : (p : ℕ) (n : Float) (part : List Float) → rotatable working (length q) (length out) ≡ true → p ≡ padded_dim working → n ≡ rnorm (rotated_by working seed q)
-      → part ≡ prepared (rotated_by working seed q) → query n (part ++ drop (p - 0) out) ≡ prepared_into working seed q out
+  pub prepared_is : (p : ℕ) (n : Float) (part : List Float) → rotatable working (length q) (length out) ≡ true → p ≡ padded_dim working → n ≡ rnorm (rotated_by working seed q)
+      → part ≡ prepared (rotated_by working seed q) → query n (part ++ drop p out) ≡ prepared_into working seed q out
   unfolding prepared_into over
-  prepared-is p n part r e f g = rw (r, f, g, sub-zero p, e, length-unit (rotated_by working seed q), length-rotated working seed q)
+  prepared_is p n part r e f g = rw (r, f, g, e, length-unit (rotated_by working seed q), length-rotated working seed q)

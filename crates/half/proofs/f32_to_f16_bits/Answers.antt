@@ -1,7 +1,9 @@
 use mathlib.Core.Path.{◌≡◌, sym, ap, ◌∙◌}
 use Prim.Native.Nat.{ℕ, ◌+◌, ◌-◌, ◌*◌, ◌/◌, ◌%◌, ◌^◌, ◌<◌, ◌≤◌}
 use native.Mathlib.Omega.{arith}
-use lib.IntN.{nat_abs}
+use mathlib.Core.Bool.{true, false}
+use lib.IntN.{pos, negsuc, nat_abs}
+use lib.Signed.{lt_z, le_z}
 use lib.Bits.{bit_and, bit_or, and_mask, and_high, or_shifted_r}
 use lib.Ieee.Nearest.{closest}
 use Rattle.half.specs.Half.{narrowed}
@@ -62,10 +64,12 @@ module _ (x : ℕ) where
     few : q ≤ 2048
     is : narrowed x ≡ signed ((field - 113) * 1024 + q)
 
-  normal-half : (q : ℕ) → 113 ≤ field → field ≤ 142 → q ≡ closest sig (2 ^ 13) → Normal q
-  normal-half q l h e =
+  normal-half : (q : ℕ) → le_z (negsuc 13) (exponent.less field) ≡ true → lt_z (pos 15) (exponent.less field) ≡ false → q ≡ closest sig (2 ^ 13) → Normal q
+  normal-half q from below e =
+      let l : 113 ≤ field = exponent.normal field field_lt from in
+      let h : field ≤ 142 = exponent.not-over field field_lt below in
       record {
-        shift = (exponent.plus14-is field field_lt l).1;
+        shift = exponent.plus14-is field field_lt l;
         low = h;
         few = omega (arith, most frac sig frac-lt is-sig);
         is =
@@ -83,9 +87,10 @@ module _ (x : ℕ) where
     few : closest sig (2 ^ down) ≤ 1024
     is : narrowed x ≡ signed (closest sig (2 ^ down))
 
-  subnormal-half : field < 113 → Subnormal
-  subnormal-half l =
-      let s : down ≡ 126 - field = (exponent.minus1-is field field_lt l).1 in
+  subnormal-half : le_z (negsuc 13) (exponent.less field) ≡ false → Subnormal
+  subnormal-half below =
+      let l : field < 113 = exponent.subnormal field field_lt below in
+      let s : down ≡ 126 - field = exponent.minus1-is field field_lt l in
       record {
         low = l;
         shift = s;
@@ -119,58 +124,37 @@ returns-then-e-gt15 c =
 
 pub overflow_add-result : goal.overflow_add-result
 overflow_add-result c =
-    let at-normal : Normal c.args.x c.nearest.result = let x = c.args.x in
-    normal-half x c.nearest.result
-    (exponent.normal (field x) (field_lt x) c.if-e-geminus14.true)
-    (exponent.not-over (field x) (field_lt x) c.if-e-gt15.false)
-    c.nearest.ensures in
-    let n = at-normal in omega (arith, n.shift, n.low, n.few)
+    let n = normal-half c.args.x _ c.if-e-geminus14.true c.if-e-gt15.false c.nearest.ensures in
+    omega (arith, n.shift, n.low, n.few)
 
 pub overflow_cast-result : goal.overflow_cast-result
 overflow_cast-result c =
-    let at-normal : Normal c.args.x c.nearest.result = let x = c.args.x in
-    normal-half x c.nearest.result
-    (exponent.normal (field x) (field_lt x) c.if-e-geminus14.true)
-    (exponent.not-over (field x) (field_lt x) c.if-e-gt15.false)
-    c.nearest.ensures in
-    let n = at-normal in omega (arith, n.shift, n.low, n.few)
+    let n = normal-half c.args.x _ c.if-e-geminus14.true c.if-e-gt15.false c.nearest.ensures in
+    omega (arith, n.shift, n.low, n.few)
 
 pub returns-then-e-geminus14 : goal.returns-then-e-geminus14
 returns-then-e-geminus14 c =
-    let at-normal : Normal c.args.x c.nearest.result = let x = c.args.x in
-    normal-half x c.nearest.result
-    (exponent.normal (field x) (field_lt x) c.if-e-geminus14.true)
-    (exponent.not-over (field x) (field_lt x) c.if-e-gt15.false)
-    c.nearest.ensures in
-    let b = c in
-    let x = b.args.x in
-    let n = at-normal in
+    let x = c.args.x in
+    let n = normal-half x _ c.if-e-geminus14.true c.if-e-gt15.false c.nearest.ensures in
     meets x _
-    (joined x (above x * 1024 % 0x1_0000_0000 + c.nearest.result) b.ranges.x.fits (omega (arith, n.shift, n.low, n.few))
+    (joined x (above x * 1024 % 0x1_0000_0000 + c.nearest.result) c.ranges.x.fits (omega (arith, n.shift, n.low, n.few))
     ∙ omega (arith, n.is, n.shift, n.low))
 
 pub returns-then-shift-gt24 : goal.returns-then-shift-gt24
 returns-then-shift-gt24 c =
-    let at-subnormal : Subnormal c.args.x = let x = c.args.x in
-    subnormal-half x (exponent.subnormal (field x) (field_lt x) c.if-e-geminus14.false) in
-    let b = c in
-    let x = b.args.x in
-    let n = at-subnormal in
+    let x = c.args.x in
+    let n = subnormal-half x c.if-e-geminus14.false in
     let z : closest (sig x) (2 ^ down x) ≡ 0 = none (frac x) (sig x) (frac-lt x) (is-sig x) (down x) c.if-shift-gt24.true in
-    meets x _ (omega (arith, n.is, is-sign x b.ranges.x.fits))
+    meets x _ (omega (arith, n.is, is-sign x c.ranges.x.fits))
 
 pub overflow_cast-result-2 : goal.overflow_cast-result-2
 overflow_cast-result-2 c =
-    let at-subnormal : Subnormal c.args.x = let x = c.args.x in
-    subnormal-half x (exponent.subnormal (field x) (field_lt x) c.if-e-geminus14.false) in
-    let n = at-subnormal in omega (arith, n.few, c.nearest-2.ensures)
+    let n = subnormal-half c.args.x c.if-e-geminus14.false in
+    omega (arith, n.few, c.nearest-2.ensures)
 
 pub returns : goal.returns
 returns c =
-    let at-subnormal : Subnormal c.args.x = let x = c.args.x in
-    subnormal-half x (exponent.subnormal (field x) (field_lt x) c.if-e-geminus14.false) in
-    let b = c in
-    let x = b.args.x in
-    let n = at-subnormal in
+    let x = c.args.x in
+    let n = subnormal-half x c.if-e-geminus14.false in
     let e = c.nearest-2.ensures in
-    meets x _ (joined x c.nearest-2.result b.ranges.x.fits (omega (arith, n.few)) ∙ omega (arith, n.is))
+    meets x _ (joined x c.nearest-2.result c.ranges.x.fits (omega (arith, n.few)) ∙ omega (arith, n.is))

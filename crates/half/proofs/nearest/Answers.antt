@@ -30,7 +30,5 @@ cut m s M S S' =
 
 pub returns : goal.returns
 returns c =
-    let at-start : Cut c.args.m c.args.s = cut c.args.m c.args.s c.ranges.m.fits c.requires.0 c.requires.1 in
-    let b = c in
-    let k = at-start in
-    omega (arith, closest-tie b.args.m (2 ^ b.args.s) (omega arith), and_mask (b.args.m / 2 ^ b.args.s) 1)
+    let k = cut c.args.m c.args.s c.ranges.m.fits c.requires.0 c.requires.1 in
+    omega (arith, closest-tie c.args.m (2 ^ c.args.s) (omega arith), and_mask (c.args.m / 2 ^ c.args.s) 1)

@@ -1,9 +1,8 @@
-use mathlib.Core.Path.{◌∙◌}
-use native.Mathlib.Nat.{sub-zero}
-use Rattle.held.proofs.Scan.{front-slot}
+use Rattle.held.proofs.Scan.{slot-within, slot-parts}
 use Rattle.held.proofs.held_slot.Goals as goal
 
-pub returns-then-n-held : goal.returns-then-n-held
-returns-then-n-held c =
-    let s = c in
-    rw (sub-zero s.args.n) at c.find_slot.ensures ∙ front-slot s.args.keys.now s.args.keyed.now s.args.n s.args.key s.args.held.now s.args.position
+pub returns-then-end-held : goal.returns-then-end-held
+returns-then-end-held c = cc (slot-parts c.args.keys.now c.args.keyed.now c.args.key c.args.n _ c.min-end.ensures c.args.held.now c.args.position)
+
+pub returns-else-end-keys : goal.returns-else-end-keys
+returns-else-end-keys c = cc (slot-within c.args.keys.now c.args.keyed.now c.args.key c.args.n _ c.min-end.ensures c.args.held.now c.args.position)

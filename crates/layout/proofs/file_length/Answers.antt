@@ -7,14 +7,14 @@ use Rattle.layout.proofs.file_length.Goals as goal
 pub length_of-requires : goal.length_of-requires
 length_of-requires c =
     let e = sym c.fits.ensures ∙ c.if-fits.true in
-    let few = low-counts _ _ e _ c.count_slots-found.ensures in
+    let few = low-counts _ _ e _ c.count_slots-counts.ensures in
     (rw (whole-block _ _ e _ c.block_size.ensures) (low-block _ _ e), few.0, few.1)
 
 pub returns-then-fits : goal.returns-then-fits
 returns-then-fits c =
     let e = sym c.fits.ensures ∙ c.if-fits.true in
     length-call _ _ e _
-    (length-is _ _ e _ _ _ _ c.count_slots-found.ensures c.version_of.ensures (whole-block _ _ e _ c.block_size.ensures) c.length_of.ensures)
+    (length-is _ _ e _ _ _ _ c.count_slots-counts.ensures c.version_of.ensures (whole-block _ _ e _ c.block_size.ensures) c.length_of.ensures)
 
 pub returns : goal.returns
 returns c = sym (call-misfit _ _ file_length (sym c.fits.ensures ∙ c.if-fits.false))

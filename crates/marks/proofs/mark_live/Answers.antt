@@ -1,20 +1,24 @@
-use mathlib.Core.Path.{refl, ap, ◌∙◌}
-use mathlib.Core.List.{List}
-use Prim.Native.Nat.{ℕ, ◌-◌}
+use mathlib.Core.Path.{◌≡◌, refl, sym}
+use mathlib.Core.List.{List, ◌++◌}
+use Prim.Native.Nat.{ℕ, zero, suc, min}
+use native.Mathlib.Numerals.{add-one}
 use native.Mathlib.Omega.{arith}
-use lib.ListN.{set, length-set}
-use Rattle.marks.proofs.First.{first-none, first_more}
+use lib.ListN.{length, length-take, take, drop, replicate}
+use Rattle.std.proofs.lemmas.List.{replicate_more}
+use Rattle.lists.specs.Lists.{tab, over}
+use Rattle.lists.proofs.Laws.{length-tab}
 use Rattle.marks.proofs.mark_live.Goals as goal
 
-pub loop-i-init : goal.loop-i-init
-loop-i-init c = (omega arith, refl, first-none (λ _. 1) _)
+ones : (n : ℕ) → replicate {A = ℕ} n 1 ≡ tab (λ _. 1) n
+ones zero = refl
+ones (suc n) = rw (← ones n) (sym (rw (add-one n) at (replicate_more {X = ℕ} n 1)))
 
-pub loop-i-preserved : goal.loop-i-preserved
-loop-i-preserved c =
-    let s = c in
-    let last = c.loop-i in
-    let e = c.set_live_mark.ensures in (
-      omega (arith, c.loop-i-test.true),
-      rw e (length-set last.alive last.i 1 ∙ last.invariant.1),
-      e ∙ ap (λ (xs : List ℕ). set xs last.i 1) last.invariant.2 ∙ first_more (λ _. 1) s.args.alive.now last.i,
-    )
+front : (n : ℕ) (xs : List ℕ) → replicate {A = ℕ} (length (take (min n (length xs)) xs)) 1 ++ drop (min n (length xs)) xs ≡ over (tab (λ _. 1) (min n (length xs))) xs
+unfolding over
+front n xs =
+    let m = min n (length xs) in
+    let whole : min m (length xs) ≡ m = omega arith in
+    rw (length-take, whole, ones m, length-tab {A = ℕ} (λ _. 1) m)
+
+pub returns : goal.returns
+returns c = let filled = c.fill.ensures.after (λ y w. w) in cc (front c.args.n c.args.alive.now)

@@ -6,10 +6,10 @@ pub overflow_mul-sum : goal.overflow_mul-sum
 overflow_mul-sum c =
     let at = c.loop-i in
     let base = c.power-base in
-    omega (arith, joined-fits c.args.bits c.args.codes.now base.result at.i at.sum base.ensures (omega arith) at.invariant.0 at.invariant.1 c.requires.0 c.requires.1 c.requires.2)
+    omega (arith, joined-fits c.args.bits c.args.codes.now base.result at.i at.sum base.ensures (omega arith) (omega arith) at.invariant c.requires.0 c.requires.1 c.requires.2)
 
 pub overflow_add-sum : goal.overflow_add-sum
 overflow_add-sum c =
     let at = c.loop-i in
     let base = c.power-base in
-    omega (arith, joined-fits c.args.bits c.args.codes.now base.result at.i at.sum base.ensures (omega arith) at.invariant.0 at.invariant.1 c.requires.0 c.requires.1 c.requires.2)
+    omega (arith, c.from.ensures, joined-fits c.args.bits c.args.codes.now base.result at.i at.sum base.ensures (omega arith) (omega arith) at.invariant c.requires.0 c.requires.1 c.requires.2)

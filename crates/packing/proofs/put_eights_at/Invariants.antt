@@ -1,11 +1,6 @@
-use Prim.Native.Nat.{◌-◌, ◌/◌}
-use lib.ListN.{length}
 use Rattle.packing.proofs.Eights.{Eights}
 use Rattle.packing.proofs.put_eights_at.Given as goal
 
 -- `packing::put_eights_at` meets its contract. The invariant: the first k eights are in their places (`Eights`).
 abbrev pub invariant-loop-k : goal.invariant-loop-k
 invariant-loop-k l = Eights l.bits l.codes l.initial.block l.k l.block
-
-abbrev pub decreases-loop-k : goal.decreases-loop-k
-decreases-loop-k l = length l.codes / 8 - l.k

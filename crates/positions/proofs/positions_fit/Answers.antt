@@ -1,22 +1,22 @@
-use mathlib.Core.Path.{sym}
-use Rattle.positions.proofs.Decides.{decides-true, decides-false, decides-beside, same}
-use Rattle.positions.proofs.Slots.{positions-meaning}
+use mathlib.Core.Path.{sym, ◌∙◌}
+use Rattle.positions.specs.Ordered.{Ordered}
+use Rattle.positions.specs.Lent.{keys_of}
+use Rattle.positions.proofs.Decides.{decides-false, holds}
+use Rattle.positions.proofs.Slots.{positions-meaning, answer-fits}
+use Rattle.positions.proofs.positions_fit.Goals.{then-plain, else-plain}
 use Rattle.positions.proofs.positions_fit.Goals as goal
-
-pub returns-then-plain : goal.returns-then-plain
-returns-then-plain c =
-    let room = c.has_room.ensures.yes c.if-has_room.true in
-    sym (decides-true (positions-meaning _ _) (room, c.plain.ensures c.if-plain.true))
 
 pub returns-then-rise : goal.returns-then-rise
 returns-then-rise c =
-    let room = c.has_room.ensures.yes c.if-has_room.true in
-    sym (decides-true (positions-meaning _ _) (room, c.rise.ensures c.if-rise.true))
+    let e = c.in-Some.ensures in
+    let ordered : Ordered (keys_of c.in-Some.s) c.in-Some.s.n = elim c.if-plain.branch [
+      | then-plain w ↦ c.plain.ensures w.if-plain.true
+      | else-plain w ↦ w.rise.ensures (sym w.value-is ∙ c.if-rise.true)
+    ] in
+    rw c.if-rise.true (answer-fits e.0 e.1 c.in-Some.s.room (holds ordered))
 
-pub returns-then-has_room : goal.returns-then-has_room
-returns-then-has_room c =
-    let room = c.has_room.ensures.yes c.if-has_room.true in
-    same _ _ (decides-beside room c.in_order.ensures) (positions-meaning _ _)
+pub returns-else-rise : goal.returns-else-rise
+returns-else-rise c = let e = c.in-Some.ensures in answer-fits e.0 e.1 c.in-Some.s.room c.in_order.ensures
 
-pub returns : goal.returns
-returns c = sym (decides-false (positions-meaning _ _) (λ f. c.has_room.ensures.no c.if-has_room.false f.0))
+pub returns-in-None : goal.returns-in-None
+returns-in-None c = sym (decides-false (positions-meaning _ _) (λ f. c.in-None.ensures f.0))

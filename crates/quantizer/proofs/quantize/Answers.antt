@@ -23,8 +23,8 @@ slice_bounds-halving-end c =
     let bits = c.args.bits in
     lent_fits (boundaries_of bits) c.boundaries-table.result (n.result - 1) c.boundaries-table.ensures (boundaries-count bits n.result n.ensures)
 
-pub halving-requires : goal.halving-requires
-halving-requires c =
+pub halving-requires-clause-rises : goal.halving-requires-clause-rises
+halving-requires-clause-rises c =
     let n = c.levels-n in
     let bits = c.args.bits in
     let table : take (n.result - 1 - 0) c.boundaries-table.result ≡ boundaries_of bits =

@@ -1,4 +1,4 @@
-use Rattle.std.proofs.Common.{◌∙◌, arith, sym}
+use Rattle.std.proofs.Common.{◌∙◌, sym}
 use Rattle.quantizer.proofs.Summing.{not-codable, coded-all, codable-of}
 use Rattle.quantizer.proofs.quantize_summing.Goals as goal
 
@@ -15,10 +15,8 @@ returns-then-not-is_codable-clause-codes c =
 pub squares-squares-requires : goal.squares-squares-requires
 squares-squares-requires c = (codable-of _ _ _ (sym c.is_codable.ensures ∙ c.if-not-is_codable.false)).0
 
-pub write_all-requires-clause-boundaries_len_bound : goal.write_all-requires-clause-boundaries_len_bound
-write_all-requires-clause-boundaries_len_bound c =
-    let fits = codable-of _ _ _ (sym c.is_codable.ensures ∙ c.if-not-is_codable.false) in
-    (fits.0, omega arith, fits.1)
+pub write_all-requires : goal.write_all-requires
+write_all-requires c = codable-of _ _ _ (sym c.is_codable.ensures ∙ c.if-not-is_codable.false)
 
 pub returns-clause-sum : goal.returns-clause-sum
 returns-clause-sum c =

@@ -1,5 +1,5 @@
 use mathlib.Core.Path.{◌≡◌}
-use Prim.Native.Nat.{ℕ, ◌+◌, ◌-◌, ◌≤◌, ◌<◌}
+use Prim.Native.Nat.{ℕ, ◌<◌}
 use lib.ListN.{length}
 use Rattle.pattern.specs.Binary32.{◌⊗◌}
 use Rattle.lloyd.specs.Quantizer.{centroid_at}
@@ -7,7 +7,4 @@ use Rattle.quantizer.proofs.squares.Given as goal
 
 -- `quantizer::squares` meets its contract: the codes below `code` have their squares.
 abbrev pub invariant-loop-code : goal.invariant-loop-code
-invariant-loop-code l = (l.code ≤ l.n + 1) × (length l.table ≡ 256) × ((k : ℕ) → k < l.code → centroid_at l.table k ≡ centroid_at l.centroids k ⊗ centroid_at l.centroids k)
-
-abbrev pub decreases-loop-code : goal.decreases-loop-code
-decreases-loop-code l = l.n + 1 - l.code
+invariant-loop-code l = (length l.table ≡ 256) × ((k : ℕ) → k < l.code → centroid_at l.table k ≡ centroid_at l.centroids k ⊗ centroid_at l.centroids k)

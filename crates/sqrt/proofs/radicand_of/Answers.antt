@@ -1,4 +1,4 @@
-use Prim.Native.Nat.{◌%◌, ◌-◌, ◌^◌, ◌≤◌}
+use Prim.Native.Nat.{ℕ, ◌%◌, ◌-◌, ◌^◌, ◌≤◌, ◌<◌}
 use native.Mathlib.Omega.{arith}
 use lib.Count.{count_leading_zeros}
 use lib.Dec.{lit≤}
@@ -9,17 +9,15 @@ use Rattle.sqrt.proofs.radicand_of.Goals as goal
 pub returns-then-exponent-gt0 : goal.returns-then-exponent-gt0
 returns-then-exponent-gt0 c = normal-is _ _ _ c.if-exponent-gt0.true c.paired.ensures
 
+-- the shift of a fraction that is not 0
+up : (b : ℕ) → 0 < b % 2 ^ 23 → (8 ≤ count_leading_zeros 32 (b % 2 ^ 23)) × Shift 23 (b % 2 ^ 23) (count_leading_zeros 32 (b % 2 ^ 23) - 8)
+up b h = shift_of 23 (b % 2 ^ 23) (lit≤ tt) h (omega arith)
+
 pub overflow_sub-up : goal.overflow_sub-up
-overflow_sub-up c =
-    let up : (8 ≤ count_leading_zeros 32 (c.args.b % 2 ^ 23)) × Shift 23 (c.args.b % 2 ^ 23) (count_leading_zeros 32 (c.args.b % 2 ^ 23) - 8) = shift_of 23 (c.args.b % 2 ^ 23) (lit≤ tt) (omega arith) (omega arith) in
-    (up).0
+overflow_sub-up c = (up c.args.b (omega arith)).0
 
 pub paired-requires-2 : goal.paired-requires-2
-paired-requires-2 c =
-    let up : (8 ≤ count_leading_zeros 32 (c.args.b % 2 ^ 23)) × Shift 23 (c.args.b % 2 ^ 23) (count_leading_zeros 32 (c.args.b % 2 ^ 23) - 8) = shift_of 23 (c.args.b % 2 ^ 23) (lit≤ tt) (omega arith) (omega arith) in
-    shifted-normal _ _ (up).1
+paired-requires-2 c = shifted-normal _ _ (up c.args.b (omega arith)).1
 
 pub returns : goal.returns
-returns c =
-    let up : (8 ≤ count_leading_zeros 32 (c.args.b % 2 ^ 23)) × Shift 23 (c.args.b % 2 ^ 23) (count_leading_zeros 32 (c.args.b % 2 ^ 23) - 8) = shift_of 23 (c.args.b % 2 ^ 23) (lit≤ tt) (omega arith) (omega arith) in
-    subnormal-is _ _ _ _ c.if-exponent-gt0.false (up).1 c.paired-2.ensures
+returns c = subnormal-is _ _ _ _ c.if-exponent-gt0.false (up c.args.b (omega arith)).1 c.paired-2.ensures

@@ -1,9 +1,10 @@
-use Rattle.sqrt.proofs.Digits.{Within}
+use Prim.Native.Nat.{◌+◌, ◌*◌, ◌^◌, ◌≤◌, ◌<◌}
 use Rattle.sqrt.proofs.whole_root.Given as goal
 
--- `sqrt::whole_root` meets its contract: in the loop the root is at least q and below q + 2 ^ digits.
-abbrev pub invariant-loop-digits : goal.invariant-loop-digits
-invariant-loop-digits l = Within l.p l.q l.digits
-
-abbrev pub decreases-loop-digits : goal.decreases-loop-digits
-decreases-loop-digits l = l.digits
+-- The root of p is at least q and below q + 2 ^ digit, where `digit` digits are left.
+abbrev pub invariant-loop-digit : goal.invariant-loop-digit
+invariant-loop-digit l = record {
+  low : l.q * l.q ≤ l.p;
+  high : l.p < (l.q + 2 ^ l.digit) * (l.q + 2 ^ l.digit);
+  room : l.q + 2 ^ l.digit ≤ 2 ^ 24;
+}

@@ -1,6 +1,7 @@
+use Rattle.std.proofs.Common.{rules}
 use Rattle.positions.specs.Tree.{branch}
 use Rattle.positions.proofs.tree.branch_of.Goals as goal
 
 pub returns : goal.returns
 unfolding branch
-returns c = rw c.wide.ensures.0
+returns c = search rules

@@ -1,0 +1,6 @@
+use Rattle.std.proofs.Common.{◌∙◌}
+use Rattle.little_endian.proofs.Numbers.{first-number}
+use Rattle.little_endian.proofs.rd_u64.Goals as goal
+
+pub returns : goal.returns
+returns c = c.from_le_bytes.ensures ∙ first-number _ _ 7 c.first.ensures

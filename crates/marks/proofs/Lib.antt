@@ -1,2 +1,0 @@
--- Laws of marking the first slots.
-pub mod First

@@ -1,0 +1,6 @@
+use Rattle.positions.specs.Decides.{Decides}
+use Rattle.positions.specs.Ordered.{AllFirst}
+use Rattle.positions.proofs.HeldKeys.all_first.Given as goal
+
+abbrev pub invariant-loop-slot : goal.invariant-loop-slot
+invariant-loop-slot l = Decides l.all (AllFirst l.self.held.now l.slot)

@@ -1,0 +1,23 @@
+use native.Mathlib.Omega.{arith}
+use mathlib.Core.Path.{◌∙◌}
+use native.Mathlib.Nat.{le-div_iff_mul-le}
+use borrow.Author.Tests.{leb-true}
+use Rattle.codes.proofs.Tests.{at_width_lem}
+use Rattle.scan.proofs.Sizes.{levels-of}
+use Rattle.scan.proofs.Stage.is_grouped.Goals as goal
+
+pub returns : goal.returns
+returns c =
+    λ e.
+    let s = c.args.self.now in
+    record {
+      from = c.if-self-lt4.false;
+      to = c.if-self-gt6.false;
+      table = c.if-self.false ∙ (levels-of s.bits c.if-self-gt6.false).is;
+      groups = c.if-self-ne0.false;
+      most = c.if-self-gt4096.false;
+      block = c.if-self-bytes_per_vector.false ∙ c.bytes_per_vector.ensures ∙ at_width_lem _ (record { some = omega arith; most = omega arith });
+      codes-there = (le-div_iff_mul-le {k = s.size} {x = s.n} (omega arith)).0 c.if-self-2.false;
+      scales-there = c.if-self-3.false;
+      marks-there = leb-true _ _ e;
+    }

@@ -1,2 +1,0 @@
--- Whether a slot has a key, by its word.
-mod Has
