@@ -2,12 +2,14 @@
 #![tactic(auto)]
 
 ghost use Rattle.std.specs.Prelude.{◌≡◌};
+ghost use Rattle.refusal.specs.Refusal.{fault_of};
 ghost use Rattle.index.specs.Read.{version_in, form_in, dim_in, working_field, header_in, stages_in, head_fault};
 ghost use Rattle.header.specs.Head.{head_of};
 
 use encode::Header;
 use index::Form;
 use little_endian::{after, rd_u8, rd_u16, rd_u32, rd_u64};
+use refusal::Refusal;
 
 // What the head of a file states.
 #[derive(Drop)]
@@ -92,29 +94,29 @@ pub fn stages_in(file: &[u8]) -> &[u8]
 
 // ---- tests
 
-// The refusal that the head gives, 14 to 18; 0 for none.
+// The refusal that the head gives: 14 to 18.
 #[tactic(auto, unfolding(index::specs::Step::first_of, index::specs::Read::head_fault, index::specs::Read::little_endian))]
-pub fn head_fault(file: &[u8]) -> u8
-    ensures { result ≡ head_fault file.now }
+pub fn check(file: &[u8]) -> Result<(), Refusal>
+    ensures { fault_of result ≡ head_fault file.now }
 {
     if file.len() < 24 {
-        return 14;
+        return Err(Refusal::EndsEarly);
     }
     if rd_u32(file) != 0x5143_4556 {
-        return 15;
+        return Err(Refusal::NotVecq);
     }
     let form = form_in(file);
     if !form.known {
-        return 16;
+        return Err(Refusal::Version);
     }
     if dim_in(file) < working_field(file) {
-        return 17;
+        return Err(Refusal::FileDims);
     }
     if file.len() < form::stages_at(form) {
-        return 14;
+        return Err(Refusal::EndsEarly);
     }
     if !(4..=6).contains(&header_in(file).bits) {
-        return 18;
+        return Err(Refusal::FileWidth);
     }
-    0
+    Ok(())
 }

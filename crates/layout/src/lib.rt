@@ -2,14 +2,16 @@
 #![tactic(auto)]
 
 ghost use Rattle.std.specs.Prelude.{◌≡◌, ◌≤◌};
-ghost use Rattle.index.specs.Arrays.{lent};
+ghost use Rattle.index.specs.Lent.{contents};
+ghost use Rattle.index.specs.Verdict.{verdict};
 ghost use Rattle.index.specs.Form.{form_of, end_at};
 ghost use Rattle.index.specs.Step.{file_length};
 ghost use Rattle.index.specs.Call.{call};
 ghost use Rattle.index.specs.Answers.{result_of, length_is};
 ghost use Rattle.layout.specs.Counts.{entry_at, counts_of};
 
-use index::{Index, Written};
+use index::{Index, Lent};
+use refusal::Refusal;
 
 // ---- counts
 
@@ -58,27 +60,11 @@ fn length_of(version: u16, block: usize, counts: Counts) -> usize
 }
 
 // How many bytes the file of the index has. Refusal: 13.
-pub fn file_length(
-    index: Index,
-    codes: &[u8],
-    scales: &[u32],
-    keys: &[u64],
-    keyed: &[bool],
-    held: &[u32],
-    alive: &[u8],
-    codes2: &[u8],
-    scales2: &[u32],
-) -> Written
-    ensures { result_of index (lent codes.now scales.now keys.now keyed.now held.now alive.now codes2.now scales2.now)
-        (length_is result)
-        ≡ call index (lent codes.now scales.now keys.now keyed.now held.now alive.now codes2.now scales2.now)
-        file_length }
+pub fn file_length(index: Index, arrays: &Lent<'_>) -> Result<usize, Refusal>
+    ensures { let a = contents arrays.now in
+        result_of index a (length_is (verdict result)) ≡ call index a file_length }
 {
-    if fit::fits(
-        index, codes, scales, keys, keyed, held, alive, codes2, scales2,
-    ) {
-        let counts = count_slots(keyed, alive, index.n);
-        return Written::Bytes(length_of(form::version_of(index), room::block_size(index), counts));
-    }
-    Written::Refused(13)
+    fit::check(index, arrays)?;
+    let counts = count_slots(arrays.keyed, arrays.alive, index.n);
+    Ok(length_of(form::version_of(index), room::block_size(index), counts))
 }

@@ -1,20 +1,22 @@
-use mathlib.Core.Path.{sym, ◌∙◌}
+use Rattle.std.proofs.Common.{rules, ◌≡◌, Err, sym}
 use Rattle.index.specs.Step.{file_length}
 use Rattle.index.proofs.Calls.{call-misfit}
 use Rattle.layout.proofs.Counting.{whole-block, low-block, low-counts, length-is, length-call}
 use Rattle.layout.proofs.file_length.Goals as goal
 
+pub returns-in_err-check : goal.returns-in_err-check
+returns-in_err-check c =
+    let k : c.from_residual.result ≡ Err c.in_err-check.field-0.0 = search rules in
+    rw (k, c.in_err-check.ensures.1) (sym (call-misfit _ _ file_length c.in_err-check.ensures.0))
+
 pub length_of-requires : goal.length_of-requires
 length_of-requires c =
-    let e = sym c.fits.ensures ∙ c.if-fits.true in
+    let e = c.in_ok-check.ensures in
     let few = low-counts _ _ e _ c.count_slots-counts.ensures in
     (rw (whole-block _ _ e _ c.block_size.ensures) (low-block _ _ e), few.0, few.1)
 
-pub returns-then-fits : goal.returns-then-fits
-returns-then-fits c =
-    let e = sym c.fits.ensures ∙ c.if-fits.true in
+pub returns : goal.returns
+returns c =
+    let e = c.in_ok-check.ensures in
     length-call _ _ e _
     (length-is _ _ e _ _ _ _ c.count_slots-counts.ensures c.version_of.ensures (whole-block _ _ e _ c.block_size.ensures) c.length_of.ensures)
-
-pub returns : goal.returns
-returns c = sym (call-misfit _ _ file_length (sym c.fits.ensures ∙ c.if-fits.false))
