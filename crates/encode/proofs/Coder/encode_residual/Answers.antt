@@ -1,9 +1,5 @@
-use Rattle.encode.proofs.Fit.{fits-of}
 use Rattle.encode.proofs.Residual.{residual-is}
-use Rattle.encode.proofs.store_residual.Goals as goal
-
-pub scale_rest-rms-requires-clause-rotated_len_bound : goal.scale_rest-rms-requires-clause-rotated_len_bound
-scale_rest-rms-requires-clause-rotated_len_bound c = (fits-of _ _ _ _ c.requires.block_value).most
+use Rattle.encode.proofs.Coder.encode_residual.Goals as goal
 
 pub returns : goal.returns
 returns c =
