@@ -7,7 +7,7 @@ use native.Mathlib.Nat.{zero-add}
 use native.Mathlib.Numerals.{add-one}
 use native.Mathlib.Omega.{arith}
 use lib.ListN.{length, take, get_or, set, length-append, length-take, length-map}
-use lib.Seq.{take-nil, drop-nil, take-suc, take_all, sets, length-sets}
+use lib.Seq.{take-nil, drop-nil, take-suc, take_all, sets}
 use Rattle.lists.specs.Keep.{numbered}
 use Rattle.choose.specs.Falling.{reaches}
 use Rattle.lists.proofs.Keep.{count-length, length-numbered, get_d_numbered, sets-append}
@@ -41,10 +41,6 @@ module _ {orders : List ℕ} {t n : ℕ} {names₀ numbers₀ names numbers : Li
   pub shortening-few : m ≤ i
   shortening-few =
       omega (arith, s.many, short-length ord n t (take i (numbered 0 orders)), count-length (reaches ord t) (take i (numbered 0 orders)), length-take i (numbered 0 orders))
-
-  pub shortening-lengths : (length names ≡ length names₀) × (length numbers ≡ length numbers₀)
-  shortening-lengths =
-      (ap length s.slots-in ∙ length-sets names₀ 0 (map slot (first n t orders i)), ap length s.orders-in ∙ length-sets numbers₀ 0 (map ord (first n t orders i)))
 
   -- what the loop leaves where it ends
   pub shortening-all : length orders ≤ i →
