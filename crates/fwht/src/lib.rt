@@ -6,13 +6,13 @@ ghost use Rattle.padding.specs.Padded.{exponent};
 ghost use Rattle.fwht.specs.InPlace.{Blocks};
 ghost use Rattle.fwht.specs.Binary32.{fwht32, spans32, turned32, Spanned32};
 
-// A transform of so many entries at once, h places apart from j on: passes at `spans` spans.
+// The passes at one, two or three spans, from h on, over one column of a block: the entries that lie h places apart, from j on, to their transform.
 trait Turn {
     ghost spans: { ℕ };
 
     ghost PLACES: { ℕ };
 
-    // 2^spans
+    // How many entries a column has, 2^spans.
     const PLACES: usize;
 
     fn turn(v: &mut [f32], j: usize, h: usize)
@@ -126,7 +126,7 @@ impl Turn for Eight {
     ghost places = { refl };
 }
 
-// The passes at a turn's spans, from h on, over one block.
+// The passes at a turn's spans over one block, column after column.
 fn over_columns<T: Turn>(v: &mut [f32], h: usize)
     requires { length v.old ≡ 2 ^ T.spans * h }
     ensures { v.new ≡ spans32 h T.spans v.old }
@@ -136,16 +136,15 @@ fn over_columns<T: Turn>(v: &mut [f32], h: usize)
     }
 }
 
-// The passes at a turn's spans, from h on, in one walk over the places, block after block.
+// The passes at a turn's spans over all places, block after block.
+// By the blocks' places: what `chunks_exact_mut` lends says nothing of the entries afterwards.
 fn over_blocks<T: Turn>(v: &mut [f32], h: usize)
     requires { Blocks (2 ^ T.spans * h) (length v.old) }
     ensures { v.new ≡ spans32 h T.spans v.old }
 {
-    let mut i = 0;
-    while i < v.len() {
-        let end = i + T::PLACES * h;
-        over_columns::<T>(&mut v[i..end], h);
-        i = end;
+    let size = T::PLACES * h;
+    for i in (0..v.len()).step_by(size) {
+        over_columns::<T>(&mut v[i..i + size], h);
     }
 }
 
