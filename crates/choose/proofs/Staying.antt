@@ -40,9 +40,9 @@ module _ {X : Type 0} (ord : X → ℕ) where
         go true e ih = rw e
         go false e ih = rw e (rw e ih)
 
-    each-without : (P : X → Type 0) (ks : List X) → Each P ks → Each P (without_first ord t ks)
-    each-without P [] h = tt
-    each-without P (x ∷ xs) h = either (Each P) (at ord t x) h.1 (h.0, each-without P xs h.1)
+    pub each-without : (P : X → Type 0) (ks ys : List X) → Each P (ks ++ ys) → Each P (without_first ord t ks ++ ys)
+    each-without P [] ys h = h
+    each-without P (k ∷ ks) ys h = either (λ (r : List X). Each P (r ++ ys)) (at ord t k) h.1 (h.0, each-without P ks ys h.1)
 
     count-without : (p : X → Bool) (ks : List X) → count p (without_first ord t ks) ≤ count p ks
     count-without p [] = omega arith
@@ -80,7 +80,7 @@ module _ {X : Type 0} (ord : X → ℕ) where
     each-displace : (P : X → Type 0) (ks xs : List X) → Each P ks → Each P xs → Each P (displace ord t ks xs)
     each-displace P ks [] h k = h
     each-displace P ks (x ∷ xs) h k =
-        either (Each P) (above ord t x) (each-displace P (after ks x) xs (each_append P (without_first ord t ks) (x ∷ []) (each-without P ks h) (k.0, tt)) k.1) (each-displace P ks xs h k.1)
+        either (Each P) (above ord t x) (each-displace P (after ks x) xs (each-without P ks (x ∷ []) (each_append P ks (x ∷ []) h (k.0, tt))) k.1) (each-displace P ks xs h k.1)
 
     count-displace : (p : X → Bool) (ks xs : List X) → count p (displace ord t ks xs) ≤ count p ks + count p xs
     count-displace p ks [] = omega arith

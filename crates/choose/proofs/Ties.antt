@@ -13,7 +13,7 @@ use Rattle.lists.proofs.Front.{each_map}
 use Rattle.choose.specs.Falling.{reaches, above, at, insert, falling, RisesBy}
 use Rattle.choose.specs.Choose.{wanted, threshold, without_first, displace, stay, choose}
 use Rattle.choose.proofs.Falling.{each-falling}
-use Rattle.choose.proofs.Staying.{stay-each}
+use Rattle.choose.proofs.Staying.{each-without, stay-each}
 
 -- ---- numbers that rise do so without some of the entries
 
@@ -38,14 +38,10 @@ module _ {X : Type 0} (number : X → ℕ) where
   -- ---- so they do among those that stay
 
   module _ (ord : X → ℕ) (t : ℕ) where
-    each-without : (P : X → Type 0) (ks ys : List X) → Each P (ks ++ ys) → Each P (without_first ord t ks ++ ys)
-    each-without P [] ys h = h
-    each-without P (k ∷ ks) ys h = either (λ (r : List X). Each P (r ++ ys)) (at ord t k) h.1 (h.0, each-without P ks ys h.1)
-
     rises-without : (ks ys : List X) → RisesBy number (ks ++ ys) → RisesBy number (without_first ord t ks ++ ys)
     rises-without [] ys h = h
     rises-without (k ∷ ks) ys h =
-        either (λ (r : List X). RisesBy number (r ++ ys)) (at ord t k) h.1 (each-without (λ y. number k < number y) ks ys h.0, rises-without ks ys h.1)
+        either (λ (r : List X). RisesBy number (r ++ ys)) (at ord t k) h.1 (each-without ord t (λ y. number k < number y) ks ys h.0, rises-without ks ys h.1)
 
     rises-displace : (ks xs : List X) → RisesBy number (ks ++ xs) → RisesBy number (displace ord t ks xs)
     rises-displace ks [] h = subst (RisesBy number) (append-nil ks) h

@@ -2,8 +2,8 @@
 use mathlib.Core.Path.{◌≡◌, refl, ap, sym, ◌∙◌}
 use mathlib.Core.Bool.{Bool, true, false, cond, ◌&&◌, and-false}
 use mathlib.Core.List.{List, [], ◌∷◌, ◌++◌, map}
-use Prim.Native.Nat.{ℕ, ◌-◌, min, max, ◌≤◌, ◌<◌}
-use native.Mathlib.Nat.{sub-zero}
+use Prim.Native.Nat.{ℕ, min, max, ◌≤◌, ◌<◌}
+use mathlib.Core.Logic.{◌⊎◌, inl, inr}
 use native.Mathlib.Omega.{arith}
 use lib.ListN.{length, take, drop, length-map, length-take}
 use lib.Dec.{leb, ltb}
@@ -63,22 +63,20 @@ module _ (orders : List ℕ) (k : ℕ) (places : List ℕ) where
     is-wanted : length (listed orders k) ≡ n
     is-wanted = length-listed orders k ∙ sym wanted
 
-    pub too_short : length places < n → Answers 0 places
+    -- no slot takes part, or there are too few places
+    pub none-written : (n ≡ 0) ⊎ ((n ≡ 0 → ⊥) × (length places < n)) → Answers 0 places
     unfolding listed_within
-    too_short h = nothing (rw (lt-leb (length (listed orders k)) (length places) (omega (arith, is-wanted)), and-false (leb (length orders) 65536)))
-
-    pub none-live : n ≡ 0 → Answers 0 places
-    unfolding listed_within
-    none-live h = nothing (go (listed orders k) (omega (arith, is-wanted)) (leb (length orders) 65536 && leb (length (listed orders k)) (length places)))
+    none-written (inl h) = nothing (go (listed orders k) (omega (arith, is-wanted)) (leb (length orders) 65536 && leb (length (listed orders k)) (length places)))
       where
         go : (l : List ℕ) → length l ≡ 0 → (b : Bool) → cond b l [] ≡ []
         go [] e true = refl
         go [] e false = refl
         go (x ∷ l) e b = absurd (omega arith)
+    none-written (inr h) = nothing (rw (lt-leb (length (listed orders k)) (length places) (omega (arith, is-wanted, h.1)), and-false (leb (length orders) 65536)))
 
-    pub all-written : {l : List ℕ} → length orders ≤ 65536 → n ≤ length places → l ≡ listed orders (length (take (n - 0) places)) → Answers n (l ++ drop (n - 0) places)
+    pub all-written : {l : List ℕ} → length orders ≤ 65536 → n ≤ length places → l ≡ listed orders (length (take n places)) → Answers n (l ++ drop n places)
     unfolding over
     all-written few room e =
-        let m : length (take (n - 0) places) ≡ n = omega (arith, length-take (n - 0) places) in
+        let m : length (take n places) ≡ n = omega (arith, length-take n places) in
         let a : listed_within orders k places ≡ listed orders k = answered-listed few (omega (arith, is-wanted)) in
-        (rw (a, is-wanted), rw (a, is-wanted, e, m, sub-zero n, wanted, listed-wanted orders k))
+        (rw (a, is-wanted), rw (a, is-wanted, e, m, wanted, listed-wanted orders k))

@@ -58,7 +58,7 @@ module _ (alive : List ℕ) (n : ℕ) (old : List ℕ) (space : n ≤ length old
   numbers = live_slots alive n
 
   pub few-kept : length numbers ≤ n
-  few-kept = few-live alive old n space n
+  few-kept = few-live alive old n
 
   -- written over places that are there, they are read
   number_at : (j d : ℕ) → j < length numbers → get_or (over numbers old) j 0 ≡ get_or numbers j d

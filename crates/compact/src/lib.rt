@@ -3,8 +3,8 @@
 // Held order is written anew at the end, so until then its first places keep the numbers of the slots that stay: the call needs no list of its own.
 #![tactic(auto)]
 
-ghost use Rattle.std.specs.Prelude.{◌≡◌, false, cond, ◌+◌, ◌*◌, ◌/◌, ◌≤◌, ◌<◌, length, take, drop};
-ghost use Rattle.lists.specs.Lists.{tab, over, splice};
+ghost use Rattle.std.specs.Prelude.{◌≡◌, false, cond, ◌/◌, ◌≤◌, length};
+ghost use Rattle.lists.specs.Lists.{tab, over};
 ghost use Rattle.index.specs.Arrays.{lent};
 ghost use Rattle.index.specs.Step as Step;
 ghost use Rattle.index.specs.Call.{call};
@@ -22,65 +22,24 @@ fn live_slots(alive: &[u8], n: usize, slots: &mut [u32]) -> usize
     ensures value { result ≡ length (live_slots alive.now n) }
     ensures slots_after { slots.new ≡ over (live_slots alive.now n) slots.old }
 {
-    let mut many: usize = 0;
-    let mut i: usize = 0;
-    while i < n {
+    let mut many = 0;
+    for i in 0..n {
         if marks::is_live(alive, i) {
             slots[many] = i as u32;
             many += 1;
         }
-        i += 1;
     }
     many
 }
 
 // ---- entries and blocks move down
 
-fn gather_u32(xs: &mut [u32], slots: &[u32], n: usize)
+fn gather<T: Copy>(xs: &mut [T], slots: &[u32], n: usize)
     requires { Downward slots.now n (length xs.old) }
-    ensures { xs.new ≡ gathered slots.now n 0 xs.old }
+    ensures { (d : _) → xs.new ≡ gathered slots.now n d xs.old }
 {
-    let mut i = 0;
-    while i < n {
-        let slot = slots[i] as usize;
-        xs[i] = xs[slot];
-        i += 1;
-    }
-}
-
-fn gather_u64(xs: &mut [u64], slots: &[u32], n: usize)
-    requires { Downward slots.now n (length xs.old) }
-    ensures { xs.new ≡ gathered slots.now n 0 xs.old }
-{
-    let mut i = 0;
-    while i < n {
-        let slot = slots[i] as usize;
-        xs[i] = xs[slot];
-        i += 1;
-    }
-}
-
-fn gather_bool(xs: &mut [bool], slots: &[u32], n: usize)
-    requires { Downward slots.now n (length xs.old) }
-    ensures { xs.new ≡ gathered slots.now n false xs.old }
-{
-    let mut i = 0;
-    while i < n {
-        let slot = slots[i] as usize;
-        xs[i] = xs[slot];
-        i += 1;
-    }
-}
-
-// Copies bytes to a lower place, or to their own.
-fn move_bytes(codes: &mut [u8], size: usize, from: usize, to: usize)
-    requires { (to ≤ from) × (from + size ≤ length codes.old) }
-    ensures { codes.new ≡ splice to (take size (drop from codes.old)) codes.old }
-{
-    let mut b: usize = 0;
-    while b < size {
-        codes[to + b] = codes[from + b];
-        b += 1;
+    for i in 0..n {
+        xs[i] = xs[slots[i] as usize];
     }
 }
 
@@ -88,11 +47,9 @@ fn gather_blocks(codes: &mut [u8], size: usize, slots: &[u32], n: usize)
     requires { Downward slots.now n (length codes.old / size) }
     ensures { codes.new ≡ gathered_blocks slots.now n size codes.old }
 {
-    let mut i: usize = 0;
-    while i < n {
-        let slot = slots[i] as usize;
-        move_bytes(codes, size, slot * size, i * size);
-        i += 1;
+    for i in 0..n {
+        let from = slots[i] as usize * size;
+        codes.copy_within(from..from + size, i * size);
     }
 }
 
@@ -103,7 +60,7 @@ fn gather_stage(codes: &mut [u8], scales: &mut [u32], size: usize, slots: &[u32]
     ensures scales_after { scales.new ≡ gathered slots.now n 0 scales.old }
 {
     gather_blocks(codes, size, slots, n);
-    gather_u32(scales, slots, n);
+    gather(scales, slots, n);
 }
 
 // ---- keys and marks
@@ -117,8 +74,8 @@ fn gather_marks(keys: &mut [u64], keyed: &mut [bool], held: &mut [u32], alive: &
     ensures held_after { held.new ≡ over (tab (rising_position keys.new keyed.new) n) held.old }
     ensures alive_after { alive.new ≡ over (tab (λ _. 1) n) alive.old }
 {
-    gather_u64(keys, held, n);
-    gather_bool(keyed, held, n);
+    gather(keys, held, n);
+    gather(keyed, held, n);
     held_order::restore_order(keys, keyed, held, n);
     marks::mark_live(alive, n);
 }
@@ -129,23 +86,20 @@ fn gather_marks(keys: &mut [u64], keyed: &mut [bool], held: &mut [u32], alive: &
 fn second_stages(residual: bool, n: usize) -> usize
     ensures { result ≡ cond residual n 0 }
 {
-    if residual {
-        return n;
-    }
-    0
+    if residual { n } else { 0 }
 }
 
 // The record once so many slots are kept: the cascade ends where a dead slot was met.
+#[tactic(auto, unfolding(crate::specs::Gathered::with_kept))]
 fn with_kept(index: Index, kept: usize) -> Index
     ensures { result ≡ with_kept index kept }
 {
-    let mut after = index;
-    after.n = kept;
-    after.live = kept;
-    if kept < index.n {
-        after.cascade = false;
+    Index {
+        n: kept,
+        live: kept,
+        cascade: index.cascade && index.n <= kept,
+        ..index
     }
-    after
 }
 
 // Gives the dead slots up. Refusal: 13.

@@ -1,9 +1,10 @@
 -- The places that are the first of their keys, written one after the other: that is the keyed list.
 use mathlib.Core.Path.{◌≡◌, refl, sym, ap, ◌∙◌}
 use mathlib.Core.Bool.{Bool, true, false, cond, and-false}
+use mathlib.Core.Logic.{◌⊎◌, inl, inr}
 use mathlib.Core.List.{List, [], ◌∷◌, ◌++◌, map, map-append, append-nil}
-use Prim.Native.Nat.{ℕ, zero, suc, ◌+◌, ◌-◌, ◌≤◌, ◌<◌, min}
-use native.Mathlib.Nat.{add-zero, sub-zero, le-min, min-le_left, min-le_right}
+use Prim.Native.Nat.{ℕ, zero, suc, ◌+◌, ◌≤◌, ◌<◌, min}
+use native.Mathlib.Nat.{add-zero}
 use native.Mathlib.Numerals.{add-one}
 use native.Mathlib.Omega.{arith}
 use lib.ListN.{length, take, get_or, set, length-append, length-map}
@@ -61,12 +62,12 @@ module _ (keys : List ℕ) (keyed : List Bool) (slots : List ℕ) (scores : List
   firsts-keyed (suc n) h = firsts-next n ∙ rw (firsts-keyed n (λ p l. h p (omega arith)), h n (omega arith)) (sym (keyed-next keys keyed slots scores n))
 
 pub firsts-linked : (keys : List ℕ) (keyed : List Bool) (slots : List ℕ) (scores : List Float) (n : ℕ) (before₀ before : List ℕ) → n ≤ length slots → n ≤ 65536 → n ≤ length before₀ →
-    before ≡ linked keys keyed (take (n - 0) slots) before₀ → firsts_list keys keyed slots scores before n ≡ keyed_to keys keyed slots scores n
+    before ≡ linked keys keyed (take n slots) before₀ → firsts_list keys keyed slots scores before n ≡ keyed_to keys keyed slots scores n
 firsts-linked keys keyed slots scores n before₀ before h few room e =
     let l : length (take n slots) ≡ n = length-take-le n slots h in
     firsts-keyed keys keyed slots scores before n
     (λ p k.
-    rw (e, sub-zero n, linked-all keys keyed (take n slots) before₀ (omega arith) (omega arith), l)
+    rw (e, linked-all keys keyed (take n slots) before₀ (omega arith) (omega arith), l)
     (get_d_front (tab (previous keys keyed (take n slots)) n) before₀ p 0 (rw (length-tab (previous keys keyed (take n slots)) n) k)
     ∙ get_or-tab (previous keys keyed (take n slots)) n p 0 k
     ∙ previous-same keys keyed (take n slots) slots p (λ i m. get_or-take n slots i 0 (omega arith))))
@@ -165,27 +166,19 @@ module _ (keys : List ℕ) (keyed : List Bool) (slots : List ℕ) (hits : List F
   shown-nothing e = rw e (refl, (refl, refl))
 
   module _ (n : ℕ) (all : n ≡ min (length slots) (length hits)) where
-    pub shown-many : 65536 < n → Shown 0 names₀ scores₀
+    -- too many are listed, or there are too few places
+    pub shown-none : (65536 < n) ⊎ ((n ≤ 65536) × (min (length names₀) (length scores₀) < n)) → Shown 0 names₀ scores₀
     unfolding keyed_shown
-    shown-many l = shown-nothing (rw (← all, lt-leb n 65536 l))
+    shown-none (inl l) = shown-nothing (rw (← all, lt-leb n 65536 l))
+    shown-none (inr l) = shown-nothing (rw (← all, lt-leb n (min (length names₀) (length scores₀)) l.1, and-false (leb n 65536)))
 
-    shown-short : min (length names₀) (length scores₀) < n → Shown 0 names₀ scores₀
+    shown-keyed : n ≤ 65536 → n ≤ min (length names₀) (length scores₀) → shown ≡ keyed_to keys keyed slots hits n
     unfolding keyed_shown
-    shown-short l = shown-nothing (rw (← all, lt-leb n (min (length names₀) (length scores₀)) l, and-false (leb n 65536)))
+    shown-keyed few l = rw (← all, le-leb n 65536 few, le-leb n (min (length names₀) (length scores₀)) l) (rw all (keyed-all keys keyed slots hits))
 
-    pub few-names : length names₀ < n → Shown 0 names₀ scores₀
-    few-names l = shown-short (omega (arith, min-le_left (length names₀) (length scores₀)))
-
-    pub few-scores : length scores₀ < n → Shown 0 names₀ scores₀
-    few-scores l = shown-short (omega (arith, min-le_right (length names₀) (length scores₀)))
-
-    shown-keyed : n ≤ 65536 → n ≤ length names₀ → n ≤ length scores₀ → shown ≡ keyed_to keys keyed slots hits n
-    unfolding keyed_shown
-    shown-keyed few l k = rw (← all, le-leb n 65536 few, le-leb n (min (length names₀) (length scores₀)) (le-min l k)) (rw all (keyed-all keys keyed slots hits))
-
-    pub shown-all : n ≤ 65536 → n ≤ length names₀ → n ≤ length scores₀ → (many : ℕ) (names : List ℕ) (scores : List Float) →
+    pub shown-all : n ≤ 65536 → n ≤ min (length names₀) (length scores₀) → (many : ℕ) (names : List ℕ) (scores : List Float) →
         Listed (keyed_to keys keyed slots hits n) names₀ scores₀ many names scores → Shown many names scores
-    shown-all few l k many names scores t = rw (shown-keyed few l k) (t.many-is, (t.names-are, t.scores-are))
+    shown-all few l many names scores t = rw (shown-keyed few l) (t.many-is, (t.names-are, t.scores-are))
 
 -- ---- a list that equals another
 

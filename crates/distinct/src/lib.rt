@@ -9,108 +9,74 @@ ghost use Rattle.previous.specs.Previous.{place_word};
 ghost use Rattle.distinct.specs.Distinct.{keyed_shown};
 ghost use Rattle.distinct.specs.Places.{first_by, firsts_list, keyed_to, Listed, PutsHit};
 
-fn wide(x: u32) -> usize
-    ensures { result ≡ x }
-{
-    x as usize
+// Listed slots and their scores, with the keys that slots have.
+#[derive(Clone, Copy)]
+struct Hits<'a> {
+    keys: &'a [u64],
+    keyed: &'a [bool],
+    slots: &'a [u32],
+    scores: &'a [f32],
 }
 
-// Whether a place is the first of its key.
-fn is_first(keyed: &[bool], slots: &[u32], before: &[u32], place: usize) -> bool
-    requires { (place < length slots.now) × (place < length before.now) }
-    ensures { result ≡ first_by keyed.now slots.now before.now place }
-{
-    if before[place] == 0 {
-        return slot_keys::is_keyed(keyed, wide(slots[place]));
+impl Hits<'_> {
+    // Whether a place is the first of its key.
+    fn is_first(&self, before: &[u32], place: usize) -> bool
+        requires { (place < length self.now.slots.now) × (place < length before.now) }
+        ensures { result ≡ first_by self.now.keyed.now self.now.slots.now before.now place }
+    {
+        before[place] == 0 && slot_keys::is_keyed(self.keyed, self.slots[place] as usize)
     }
-    false
-}
 
-// Writes a place that is the first of its key after those that are written, and returns how many are written then.
-fn write_place(
-    keys: &[u64],
-    keyed: &[bool],
-    slots: &[u32],
-    hits: &[f32],
-    before: &[u32],
-    names: &mut [u64],
-    scores: &mut [f32],
-    place: usize,
-    many: usize,
-) -> usize
-    requires lists { (place < length slots.now) × (place < length hits.now) × (place < length before.now) }
-    requires room { (place < length names.old) × (place < length scores.old) × (many ≤ place) }
-    ensures { PutsHit (first_by keyed.now slots.now before.now place)
-        (place_word keys.now slots.now place) (get_or hits.now place nan) many
-        names.old scores.old result names.new scores.new }
-{
-    if is_first(keyed, slots, before, place) {
-        names[many] = slot_keys::key_word(keys, wide(slots[place]));
-        scores[many] = hits[place];
-        return many + 1;
+    // Writes a place that is the first of its key after those that are written, and returns how many are written then.
+    fn write_place(
+        &self,
+        before: &[u32],
+        place: usize,
+        names: &mut [u64],
+        scores: &mut [f32],
+        many: usize,
+    ) -> usize
+        requires lists { (place < length self.now.slots.now) × (place < length self.now.scores.now) × (place < length before.now) }
+        requires room { (place < length names.old) × (place < length scores.old) × (many ≤ place) }
+        ensures { PutsHit (first_by self.now.keyed.now self.now.slots.now before.now place)
+            (place_word self.now.keys.now self.now.slots.now place) (get_or self.now.scores.now place nan) many
+            names.old scores.old result names.new scores.new }
+    {
+        if self.is_first(before, place) {
+            names[many] = slot_keys::key_word(self.keys, self.slots[place] as usize);
+            scores[many] = self.scores[place];
+            return many + 1;
+        }
+        many
     }
-    many
-}
 
-// Writes those of the first n places that are the first of their keys, and returns how many they are.
-fn write_firsts(
-    keys: &[u64],
-    keyed: &[bool],
-    slots: &[u32],
-    hits: &[f32],
-    before: &[u32],
-    names: &mut [u64],
-    scores: &mut [f32],
-    n: usize,
-) -> usize
-    requires lists { (n ≤ length slots.now) × (n ≤ length hits.now) × (n ≤ length before.now) }
-    requires room { (n ≤ length names.old) × (n ≤ length scores.old) }
-    ensures { Listed
-        (firsts_list keys.now keyed.now slots.now hits.now before.now n)
-        names.old scores.old result names.new scores.new }
-{
-    let mut many: usize = 0;
-    let mut i = 0;
-    while i < n {
-        many = write_place(keys, keyed, slots, hits, before, names, scores, i, many);
-        i += 1;
+    // Writes those of the first n places that are the first of their keys, and returns how many they are.
+    fn write_firsts(&self, before: &[u32], names: &mut [u64], scores: &mut [f32], n: usize) -> usize
+        requires lists { (n ≤ length self.now.slots.now) × (n ≤ length self.now.scores.now) × (n ≤ length before.now) }
+        requires room { (n ≤ length names.old) × (n ≤ length scores.old) }
+        ensures { Listed
+            (firsts_list self.now.keys.now self.now.keyed.now self.now.slots.now self.now.scores.now before.now n)
+            names.old scores.old result names.new scores.new }
+    {
+        let mut many: usize = 0;
+        for i in 0..n {
+            many = self.write_place(before, i, names, scores, many);
+        }
+        many
     }
-    many
-}
 
-// A function of its own, so that no proof meets so many zeros.
-fn room() -> [u32; 65536] {
-    [0; 65536]
-}
-
-// Writes the keyed list of the first n places.
-fn list_places(
-    keys: &[u64],
-    keyed: &[bool],
-    slots: &[u32],
-    hits: &[f32],
-    names: &mut [u64],
-    scores: &mut [f32],
-    n: usize,
-) -> usize
-    requires lists { (n ≤ length slots.now) × (n ≤ length hits.now) × (n ≤ 65536) }
-    requires room { (n ≤ length names.old) × (n ≤ length scores.old) }
-    ensures { Listed (keyed_to keys.now keyed.now slots.now hits.now n)
-        names.old scores.old result names.new scores.new }
-{
-    // One size for few and many: with two, the compiler would put this array beside those of the search, past 1.5 MB of stack.
-    let mut before = room();
-    previous::link(keys, keyed, &slots[0..n], &mut before);
-    write_firsts(keys, keyed, slots, hits, &before, names, scores, n)
-}
-
-fn smaller(a: usize, b: usize) -> usize
-    ensures { result ≡ min a b }
-{
-    if a <= b {
-        return a;
+    // Writes the keyed list of the first n places.
+    fn list_places(&self, names: &mut [u64], scores: &mut [f32], n: usize) -> usize
+        requires lists { (n ≤ length self.now.slots.now) × (n ≤ length self.now.scores.now) × (n ≤ 65536) }
+        requires room { (n ≤ length names.old) × (n ≤ length scores.old) }
+        ensures { Listed (keyed_to self.now.keys.now self.now.keyed.now self.now.slots.now self.now.scores.now n)
+            names.old scores.old result names.new scores.new }
+    {
+        // One size for few and many: with two, the compiler would put this array beside those of the search, past 1.5 MB of stack.
+        let mut before = [0u32; 65536];
+        previous::link(self.keys, self.keyed, &self.slots[..n], &mut before);
+        self.write_firsts(&before, names, scores, n)
     }
-    b
 }
 
 // Writes the keys of the listed slots, each key once, with the score of its first slot, and returns how many there are.
@@ -130,15 +96,16 @@ pub fn list_keys(
     ensures scores_after { scores.new ≡ over (map (λ e. e.1) (keyed_shown keys.now keyed.now slots.now hits.now
         (min (length names.old) (length scores.old)))) scores.old }
 {
-    let n = smaller(slots.len(), hits.len());
-    if 65536 < n {
+    let n = slots.len().min(hits.len());
+    let places = names.len().min(scores.len());
+    if 65536 < n || places < n {
         return 0;
     }
-    if names.len() < n {
-        return 0;
+    Hits {
+        keys,
+        keyed,
+        slots,
+        scores: hits,
     }
-    if scores.len() < n {
-        return 0;
-    }
-    list_places(keys, keyed, slots, hits, names, scores, n)
+    .list_places(names, scores, n)
 }

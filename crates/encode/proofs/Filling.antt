@@ -1,12 +1,12 @@
 -- The loops that fill an array: with the centroids of codes, and with the entries of one list less those of another.
 use mathlib.Core.Path.{◌≡◌, sym, ◌∙◌}
 use mathlib.Core.List.{List}
-use Prim.Native.Nat.{ℕ, ◌+◌, ◌≤◌, ◌<◌}
+use Prim.Native.Nat.{ℕ, ◌+◌, ◌<◌}
 use lib.ListN.{length, get_or, set}
 use lib.Ieee.{Float, nan}
 use Rattle.lists.proofs.Entries.{length-zip, get_d_zip}
 use Rattle.pattern.specs.Binary32.{◌⊖◌}
-use Rattle.vectors.proofs.Filling.{Filled, filled_none, filled_next, filled-all}
+use Rattle.vectors.proofs.Filling.{Filled, filled_none, filled_next}
 use Rattle.encode.specs.Encode.{differences}
 use Rattle.lloyd.specs.Quantizer.{centroid_at, decoded}
 use Rattle.lloyd.proofs.Decoded.{length-decoded, get_or-decoded}
@@ -20,9 +20,6 @@ module _ (centroids : List Float) (codes : List ℕ) (start out : List Float) (i
   pub decoded-next : i < length codes → (x : Float) → x ≡ centroid_at centroids (get_or codes i 0) → Filled (decoded centroids codes) start (set out i x) (i + 1)
   decoded-next h x e =
       filled_next (decoded centroids codes) start out i inv (centroid_at centroids 0) (rw (length-decoded centroids codes) h) x (e ∙ sym (get_or-decoded centroids codes i))
-
-  pub decoded-all : length codes ≤ i → out ≡ decoded centroids codes
-  decoded-all h = filled-all (decoded centroids codes) start out i inv (rw (length-decoded centroids codes) h)
 
 -- ---- differences
 
@@ -38,6 +35,3 @@ module _ (xs ys start out : List Float) (i : ℕ) (same : length ys ≡ length x
   unfolding differences
   differences-next h =
       filled_next (differences xs ys) start out i inv nan (rw (length-differences xs ys same) h) _ (sym (get_d_zip ◌⊖◌ xs ys i nan nan nan h (rw same h)))
-
-  pub differences-all : length xs ≤ i → out ≡ differences xs ys
-  differences-all h = filled-all (differences xs ys) start out i inv (rw (length-differences xs ys same) h)

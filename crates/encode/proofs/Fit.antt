@@ -1,6 +1,6 @@
 -- The tests `codable` and `encodable` of `specs/Calls.antt`: as the program makes them, and what follows where they pass.
-use mathlib.Core.Path.{◌≡◌, refl, sym, ◌∙◌}
-use mathlib.Core.Bool.{Bool, true, false, not, ◌&&◌, ◌||◌, and-false}
+use mathlib.Core.Path.{◌≡◌, refl, sym}
+use mathlib.Core.Bool.{Bool, true, false, not, ◌&&◌, ◌||◌}
 use Prim.Native.Nat.{ℕ, ◌*◌, ◌%◌, ◌^◌, ◌≤◌, ◌<◌}
 use borrow.Author.Tests.{eq-eqb, eqb-true, le-leb, lt-leb, lt-ltb, le-ltb, leb-true, ltb-true}
 use lib.Dec.{eqb, leb, ltb, lit<}
@@ -9,20 +9,14 @@ use Rattle.padding.specs.Rotatable.{rotatable}
 use Rattle.unit.proofs.Rotatable.{Rotatable, is-rotatable, rotatable-of}
 use Rattle.encode.specs.Header.{Header, padded}
 use Rattle.encode.specs.Calls.{codable, encodable}
+pub use Rattle.encode.specs.Calls.{Fits}
 use native.Mathlib.Nat.{one-mul, mod-eq_of_lt, lt_of_le_of_lt}
-use native.Mathlib.Omega.{arith}
 use lib.Pow.{pow-lt}
 use Rattle.codes.specs.Packing.{bytes_per_vector}
 use Rattle.codes.specs.Writing.{is_width, at_width}
 use Rattle.codes.proofs.Tests.{Width, is-width, a-width, at_width_lem}
 
 -- ---- one stage
-
-pub record Fits (w boundaries codes block : ℕ) : Type 0 where
-  pub width : Width w
-  pub table : boundaries < 2 ^ w
-  pub most : codes ≤ 4096
-  pub size : block ≡ bytes_per_vector w codes
 
 pub is-fit : {w boundaries codes block : ℕ} → Fits w boundaries codes block → codable w boundaries codes block ≡ true
 unfolding codable
@@ -42,40 +36,28 @@ fits-of w boundaries codes block h =
       size = eqb-true block (bytes_per_vector w codes) c.1;
     }
 
--- of other numbers that are the same
-pub codable-same : (w boundaries codes block : ℕ) → codable w boundaries codes block ≡ true → {n m : ℕ} → n ≡ codes → m ≡ block → codable w boundaries n m ≡ true
-codable-same w boundaries codes block h e f = (λ i. codable w boundaries (e i) (f i)) ∙ h
-
--- the tests of `codable`, in their order
+-- the tests of `is_codable`, in their order
 module _ (w boundaries codes block : ℕ) where
-  pub no_bits : w ≡ 0 → false ≡ codable w boundaries codes block
-  unfolding codable is_width
-  no_bits h = rw (le-ltb 0 w (omega arith))
+  pub no-codes : is_width w ≡ false → false ≡ codable w boundaries codes block
+  unfolding codable
+  no-codes h = rw h
 
-  module _ (some : w ≡ 0 → ⊥) where
-    pub too_wide : 8 < w → false ≡ codable w boundaries codes block
-    unfolding codable is_width
-    too_wide h = rw (lt-leb w 8 h, and-false (ltb 0 w))
+  module _ (width : Width w) where
+    levels : 1 * 2 ^ w % 2 ^ 64 ≡ 2 ^ w
+    levels = rw (one-mul (2 ^ w)) (mod-eq_of_lt (pow-lt {j = 64} (lt_of_le_of_lt width.most (lit< tt))))
 
-    module _ (most : w ≤ 8) where
-      width : Width w
-      width = record { some = omega arith; most = most }
+    pub too-many-levels : 1 * 2 ^ w % 2 ^ 64 ≤ boundaries → false ≡ codable w boundaries codes block
+    unfolding codable
+    too-many-levels h = rw (is-width width, le-ltb boundaries (2 ^ w) (rw levels at h))
 
-      levels : 1 * 2 ^ w % 2 ^ 64 ≡ 2 ^ w
-      levels = rw (one-mul (2 ^ w)) (mod-eq_of_lt (pow-lt {j = 64} (lt_of_le_of_lt most (lit< tt))))
-
-      pub too-many-levels : 1 * 2 ^ w % 2 ^ 64 ≤ boundaries → false ≡ codable w boundaries codes block
+    module _ (table : boundaries < 1 * 2 ^ w % 2 ^ 64) where
+      pub too-many-codes : 4096 < codes → leb codes 4096 ≡ codable w boundaries codes block
       unfolding codable
-      too-many-levels h = rw (is-width width, le-ltb boundaries (2 ^ w) (rw levels at h))
+      too-many-codes h = rw (is-width width, lt-ltb boundaries (2 ^ w) (rw levels at table), lt-leb codes 4096 h)
 
-      module _ (table : boundaries < 1 * 2 ^ w % 2 ^ 64) where
-        pub too-many-codes : 4096 < codes → false ≡ codable w boundaries codes block
-        unfolding codable
-        too-many-codes h = rw (is-width width, lt-ltb boundaries (2 ^ w) (rw levels at table), lt-leb codes 4096 h)
-
-        pub by_size : codes ≤ 4096 → (bytes : ℕ) → bytes ≡ at_width w (bytes_per_vector w codes) → eqb block bytes ≡ codable w boundaries codes block
-        unfolding codable
-        by_size h bytes e = rw (is-width width, lt-ltb boundaries (2 ^ w) (rw levels at table), le-leb codes 4096 h, e, at_width_lem (bytes_per_vector w codes) width)
+      pub by_size : codes ≤ 4096 → (bytes : ℕ) → bytes ≡ at_width w (bytes_per_vector w codes) → eqb block bytes ≡ codable w boundaries codes block
+      unfolding codable
+      by_size h bytes e = rw (is-width width, lt-ltb boundaries (2 ^ w) (rw levels at table), le-leb codes 4096 h, e, at_width_lem (bytes_per_vector w codes) width)
 
 -- ---- a whole vector
 
@@ -104,6 +86,9 @@ module _ (h : Header) (boundaries entries block block2 : ℕ) where
         second = λ r. eqb-true block2 block (rw r at b.1);
       }
 
+  pub padded-fits : encodable h boundaries entries block block2 ≡ true → (n : ℕ) → n ≡ padded h → n ≤ 4096
+  padded-fits e n size = rw size (encodable-of e).rotates.room
+
   -- the tests of `is_encodable`, in their order
   pub no-rotation : rotatable h.working_dim entries 4096 ≡ false → false ≡ encodable h boundaries entries block block2
   unfolding encodable
@@ -115,10 +100,10 @@ module _ (h : Header) (boundaries entries block block2 : ℕ) where
     no-fit e = rw (rotates, e)
 
     module _ (first : codable h.bits boundaries (padded h) block ≡ true) where
-      pub both-blocks : h.residual ≡ true → eqb block2 block ≡ encodable h boundaries entries block block2
+      pub both-blocks : not h.residual ≡ false → eqb block2 block ≡ encodable h boundaries entries block block2
       unfolding encodable
       both-blocks e = rw (rotates, first, e)
 
-      pub one_block : h.residual ≡ false → true ≡ encodable h boundaries entries block block2
+      pub one_block : not h.residual ≡ true → not h.residual ≡ encodable h boundaries entries block block2
       unfolding encodable
       one_block e = rw (rotates, first, e)

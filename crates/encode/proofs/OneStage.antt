@@ -2,12 +2,12 @@
 use mathlib.Core.Path.{◌≡◌, refl, ap, ap₂, ◌∙◌}
 use mathlib.Core.Bool.{Bool, true}
 use mathlib.Core.List.{List, [], ◌∷◌, append-nil}
-use Prim.Native.Nat.{ℕ, zero, suc, ◌^◌, ◌<◌}
+use Prim.Native.Nat.{ℕ, zero, suc, ◌^◌, ◌<◌, ◌≤◌}
 use native.Mathlib.Nat.{lt_of_le_of_lt}
 use native.Mathlib.Omega.{arith}
 use borrow.Author.Tests.{le-leb}
-use lib.ListN.{length, length-map}
-use lib.Seq.{drop-length}
+use lib.ListN.{length, length-map, take, replicate, length-replicate}
+use lib.Seq.{drop-length, length-take-le}
 use lib.Pow.{pow_pos, pow_mono}
 use lib.Ieee.{Float, binary32, of_bits, to_bits, of_int, round}
 use Rattle.digits.specs.Digits.{Below}
@@ -25,6 +25,11 @@ use Rattle.codes.proofs.Tests.{written-yes}
 use Rattle.unit.proofs.Vectors.{norm-is}
 use Rattle.encode.specs.Coding.{Table, table, coded, codes_of, dequantized, plain_scale, plain, packed_stage}
 use Rattle.encode.proofs.Fit.{Fits}
+
+-- ---- the first places of a working array
+
+pub first-places : {A : Type 0} (m n : ℕ) (x : A) → n ≤ m → length (take n (replicate m x)) ≡ n
+first-places m n x h = length-take-le n (replicate m x) (rw (length-replicate) h)
 
 -- ---- one stage
 

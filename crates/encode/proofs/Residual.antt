@@ -1,14 +1,11 @@
 -- Codes and scales of a residual index, from what the working functions ensure.
-use mathlib.Core.Path.{◌≡◌, refl, sym, ap, ap₂, subst, ◌∙◌}
+use mathlib.Core.Path.{◌≡◌, refl, ap, ap₂, ◌∙◌}
 use mathlib.Core.Bool.{Bool}
 use mathlib.Core.List.{List}
-use Prim.Native.Nat.{ℕ, ◌^◌, ◌≤◌}
-use native.Mathlib.Omega.{arith}
-use borrow.Author.Tests.{le-leb}
-use lib.Dec.{T}
+use Prim.Native.Nat.{ℕ}
 use lib.IntN.{pos}
 use lib.ListN.{length}
-use lib.Ieee.{Float, binary32, of_bits, to_bits, of_int, in_float, round}
+use lib.Ieee.{Float, binary32, of_bits, to_bits, of_int, round}
 use Rattle.pattern.specs.Binary32.{◌⊕◌, ◌⊗◌, ◌⊘◌, of_nat, sum_squares, larger}
 use Rattle.sqrt.specs.Root.{SquareRoot}
 use Rattle.vectors.specs.Vectors.{divided}
@@ -29,10 +26,6 @@ use Rattle.encode.proofs.Filling.{length-differences}
 two_is : of_bits binary32 0x4000_0000 ≡ of_nat 2
 unfolding of_bits of_int round
 two_is = refl
-
-pub few-enough : (n : ℕ) → n ≤ 4096 → T (in_float binary32 (pos n))
-unfolding in_float
-few-enough n h = subst T (sym (le-leb n (2 ^ 24) (omega arith))) tt
 
 pub root-mean-square-is : (xs : List Float) (s m r : Float) → s ≡ sum_squares xs → m ≡ larger (s ⊘ of_int binary32 (pos (length xs))) floor → SquareRoot m r → r ≡ root_mean_square xs
 unfolding root_mean_square

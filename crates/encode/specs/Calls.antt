@@ -1,10 +1,10 @@
 -- What the calls of this crate give and leave in the lent arrays, also where the sizes don't fit: there nothing is written, and the result is 0.
-use Rattle.std.specs.Prelude.{Bool, not, cond, ◌&&◌, ◌||◌, List, ℕ, ◌^◌, eqb, leb, ltb, length}
+use Rattle.std.specs.Prelude.{◌≡◌, Bool, not, cond, ◌&&◌, ◌||◌, List, ℕ, ◌^◌, ◌<◌, ◌≤◌, eqb, leb, ltb, length}
 use Rattle.std.proofs.Math.Option.{none, some}
 use Rattle.unit.specs.Brought.{Item}
 use Rattle.padding.specs.Rotatable.{rotatable}
 use Rattle.codes.specs.Packing.{bytes_per_vector}
-use Rattle.codes.specs.Writing.{is_width, spare_after}
+use Rattle.codes.specs.Writing.{is_width, Width, spare_after}
 use Rattle.codes.specs.Stage.{Stage, stage}
 use Rattle.encode.specs.Coding.{Table, packed_stage}
 use Rattle.encode.specs.declared.Scales.{Scales}
@@ -17,6 +17,13 @@ use Rattle.encode.specs.Coded.{Code, Spare, encoded_by_table}
 -- The width is one of 1 to 8 bits, the table has no code past the width, there are at most 4,096 codes, and the block has just their bytes.
 unfoldable pub codable : (w boundaries codes block : ℕ) → Bool
 codable w boundaries codes block = is_width w && (ltb boundaries (2 ^ w) && (leb codes 4096 && eqb block (bytes_per_vector w codes)))
+
+-- The same as facts.
+pub record Fits (w boundaries codes block : ℕ) : Type 0 where
+  pub width : Width w
+  pub table : boundaries < 2 ^ w
+  pub most : codes ≤ 4096
+  pub size : block ≡ bytes_per_vector w codes
 
 -- a block that is left as it is
 abbrev pub untouched : (block : List ℕ) → Stage

@@ -1,18 +1,16 @@
 // From a vector to the codes and scales that a slot stores: `encode_into` of vecq's store.rs. Tables are lent: any table will do.
 #![tactic(auto)]
 
-ghost use Rattle.std.specs.Prelude.{◌≡◌, true, ◌≤◌, length};
+ghost use Rattle.std.specs.Prelude.{◌≡◌, ◌≤◌, length};
 ghost use Rattle.pattern.specs.Binary32.{sum_squares, larger};
 ghost use Rattle.codes.specs.Packing.{packed};
 ghost use Rattle.codes.specs.Writing.{spare_after};
 ghost use Rattle.codes.specs.Stage.{stage};
 ghost use Rattle.unit.specs.Brought.{item_of};
-ghost use Rattle.encode.specs.Header.{padded};
 ghost use Rattle.lloyd.specs.Quantizer.{decoded};
 ghost use Rattle.encode.specs.Coding.{table, coded, dequantized, plain, packed_stage};
 ghost use Rattle.encode.specs.Encode.{floor, differences, dot, root_mean_square, scaled, residual, first_scale, second_scale};
-ghost use Rattle.encode.specs.Coded.{encoded_by_table};
-ghost use Rattle.encode.specs.Calls.{codable, stages, spares_after, stored_both, encodable, placed, encoded_into};
+ghost use Rattle.encode.specs.Calls.{codable, Fits, stages, spares_after, stored_both, encodable, encoded_into};
 
 // What fixes how a vector is coded, and stays while slots are in use.
 #[derive(Clone, Copy)]
@@ -31,34 +29,19 @@ pub struct Scales {
     pub scale2: u32,
 }
 
-// Working arrays. Their contents don't matter.
-fn floats() -> [f32; 4096] {
-    [0.0; 4096]
-}
-
-fn bytes() -> [u8; 4096] {
-    [0; 4096]
-}
-
 // ---- one stage
 
 // Whether a table of so many boundaries, so many codes and a block of so many bytes fit one another at this width.
 fn is_codable(bits: u8, boundaries: usize, codes: usize, block: usize) -> bool
     ensures { result ≡ codable bits boundaries codes block }
 {
-    if bits == 0 {
-        return false;
-    }
-    if 8 < bits {
+    if !codes::is_width(bits) {
         return false;
     }
     if 1usize << bits <= boundaries {
         return false;
     }
-    if 4096 < codes {
-        return false;
-    }
-    block == codes::bytes_per_vector(codes, bits)
+    codes <= 4096 && block == codes::bytes_per_vector(codes, bits)
 }
 
 // The centroid of each code.
@@ -66,112 +49,72 @@ fn decode(centroids: &[f32], codes: &[u8], out: &mut [f32])
     requires { length out.old ≡ length codes.now }
     ensures { out.new ≡ decoded centroids.now codes.now }
 {
-    let mut i = 0;
-    while i < codes.len() {
-        out[i] = dequantizer::dequantize_in(centroids, codes[i] as usize);
-        i += 1;
+    for (i, code) in codes.iter().enumerate() {
+        out[i] = dequantizer::dequantize_in(centroids, usize::from(*code));
     }
 }
 
-// One stage, by way of an array of codes. The sum of squares isn't needed here.
-fn store_fitting(
-    boundaries: &[f32],
-    centroids: &[f32],
-    xs: &[f32],
+// How each stage of a vector is coded: the table that is lent, the width of its codes, and whether the slot is an appended one.
+#[derive(Clone, Copy)]
+struct Coder<'a> {
+    boundaries: &'a [f32],
+    centroids: &'a [f32],
     bits: u8,
     fresh: bool,
-    codes: &mut [u8],
-    d: &mut [f32],
-    block: &mut [u8],
-)
-    requires block_value { codable bits (length boundaries.now) (length xs.now) (length block.old) ≡ true }
-    requires codes_len { (length codes.old ≡ length xs.now) × (length d.old ≡ length xs.now) }
-    ensures values { d.new ≡ dequantized (table boundaries.now centroids.now) xs.now }
-    ensures block { block.new ≡
-        packed bits (coded boundaries.now xs.now) (spare_after fresh bits (length xs.now) block.old) }
-{
-    quantizer::quantize_summing(boundaries, centroids, xs, codes);
-    packing::pack(codes, bits, fresh, block);
-    decode(centroids, codes, d);
 }
 
-// One stage: the codes of xs into the block, and the centroids that they stand for in d.
-fn store(
-    boundaries: &[f32],
-    centroids: &[f32],
-    xs: &[f32],
-    bits: u8,
-    fresh: bool,
-    d: &mut [f32],
-    block: &mut [u8],
-)
-    requires block_value { codable bits (length boundaries.now) (length xs.now) (length block.old) ≡ true }
-    requires d_len { length d.old ≡ length xs.now }
-    ensures values { d.new ≡ dequantized (table boundaries.now centroids.now) xs.now }
-    ensures block { block.new ≡
-        packed bits (coded boundaries.now xs.now) (spare_after fresh bits (length xs.now) block.old) }
-{
-    let n = xs.len();
-    let mut codes = bytes();
-    store_fitting(
-        boundaries,
-        centroids,
-        xs,
-        bits,
-        fresh,
-        &mut codes[0..n],
-        d,
-        block,
-    );
-}
+impl Coder<'_> {
+    // One stage: the codes of xs into the block, and the centroids that they stand for in d. The sum of squares isn't needed here.
+    fn store(&self, xs: &[f32], d: &mut [f32], block: &mut [u8])
+        requires codable { Fits self.now.bits (length self.now.boundaries.now) (length xs.now) (length block.old) }
+        requires d_len { length d.old ≡ length xs.now }
+        ensures values { d.new ≡ dequantized (table self.now.boundaries.now self.now.centroids.now) xs.now }
+        ensures block { block.new ≡ packed self.now.bits (coded self.now.boundaries.now xs.now)
+            (spare_after self.now.fresh self.now.bits (length xs.now) block.old) }
+    {
+        let mut all = [0u8; 4096];
+        let codes = &mut all[..xs.len()];
+        quantizer::quantize_summing(self.boundaries, self.centroids, xs, codes);
+        packing::pack(codes, self.bits, self.fresh, block);
+        decode(self.centroids, codes, d);
+    }
 
-// ---- a plain index
+    // A plain index: the codes of a rotated vector into the block of a slot. The result is the scale's pattern. The centroids are needed for their sum of
+    // squares only.
+    fn encode_plain(&self, rotated: &[f32], block: &mut [u8]) -> u32
+        requires { Fits self.now.bits (length self.now.boundaries.now) (length rotated.now) (length block.old) }
+        ensures { stage result block.new
+            ≡ packed_stage self.now.bits (spare_after self.now.fresh self.now.bits (length rotated.now) block.old)
+            (plain (table self.now.boundaries.now self.now.centroids.now) rotated.now) }
+    {
+        let mut all = [0u8; 4096];
+        let codes = &mut all[..rotated.len()];
+        let sum = quantizer::quantize_summing(self.boundaries, self.centroids, rotated, codes);
+        packing::pack(codes, self.bits, self.fresh, block);
+        let norm = sqrt::sqrt(sum);
+        pattern::to_bits(1.0 / norm)
+    }
 
-// Its one stage, by way of an array of codes. The centroids are needed for their sum of squares only.
-fn store_plain(
-    boundaries: &[f32],
-    centroids: &[f32],
-    rotated: &[f32],
-    bits: u8,
-    fresh: bool,
-    codes: &mut [u8],
-    block: &mut [u8],
-) -> u32
-    requires block_value { codable bits (length boundaries.now) (length rotated.now) (length block.old) ≡ true }
-    requires codes_len { length codes.old ≡ length rotated.now }
-    ensures { stage result block.new ≡ packed_stage bits (spare_after fresh bits (length rotated.now) block.old)
-        (plain (table boundaries.now centroids.now) rotated.now) }
-{
-    let sum = quantizer::quantize_summing(boundaries, centroids, rotated, codes);
-    packing::pack(codes, bits, fresh, block);
-    let norm = sqrt::sqrt(sum);
-    pattern::to_bits(1.0 / norm)
-}
-
-// The codes of a rotated vector into the block of a slot. The result is the scale's pattern.
-fn encode_plain(
-    boundaries: &[f32],
-    centroids: &[f32],
-    rotated: &[f32],
-    bits: u8,
-    fresh: bool,
-    block: &mut [u8],
-) -> u32
-    requires { codable bits (length boundaries.now) (length rotated.now) (length block.old) ≡ true }
-    ensures { stage result block.new ≡ packed_stage bits (spare_after fresh bits (length rotated.now) block.old)
-        (plain (table boundaries.now centroids.now) rotated.now) }
-{
-    let n = rotated.len();
-    let mut codes = bytes();
-    store_plain(
-        boundaries,
-        centroids,
-        rotated,
-        bits,
-        fresh,
-        &mut codes[0..n],
-        block,
-    )
+    // A residual index: the codes of a rotated vector, and those of what they leave of it, into the blocks of a slot.
+    fn encode_residual(&self, rotated: &[f32], block: &mut [u8], block2: &mut [u8]) -> Scales
+        requires codable { Fits self.now.bits (length self.now.boundaries.now) (length rotated.now) (length block.old) }
+        requires block2_len { length block2.old ≡ length block.old }
+        ensures { stages result block.new block2.new
+            ≡ stored_both self.now.bits (spares_after self.now.fresh self.now.bits (length rotated.now) block.old block2.old)
+            (residual (table self.now.boundaries.now self.now.centroids.now) rotated.now) }
+    {
+        let n = rotated.len();
+        let mut firsts = [0.0f32; 4096];
+        let mut rests = [0.0f32; 4096];
+        let mut seconds = [0.0f32; 4096];
+        let d = &mut firsts[..n];
+        let rest = &mut rests[..n];
+        let e = &mut seconds[..n];
+        self.store(rotated, d, block);
+        let rms = scale_rest(rotated, d, rest);
+        self.store(rest, e, block2);
+        residual_scales(d, e, rms)
+    }
 }
 
 // ---- a residual index
@@ -194,14 +137,11 @@ fn sum_up(d: &[f32], e: &[f32]) -> ThreeSums
     let mut first = 0.0f32;
     let mut cross = 0.0f32;
     let mut second = 0.0f32;
-    let mut i = 0;
-    while i < d.len() {
-        let x = d[i];
+    for (i, x) in d.iter().enumerate() {
         let y = e[i];
-        first = first + x * x;
-        cross = cross + x * y;
+        first = first + *x * *x;
+        cross = cross + *x * y;
         second = second + y * y;
-        i += 1;
     }
     ThreeSums {
         first,
@@ -214,14 +154,12 @@ fn subtract(xs: &[f32], ys: &[f32], out: &mut [f32])
     requires { (length ys.now ≡ length xs.now) × (length out.old ≡ length xs.now) }
     ensures { out.new ≡ differences xs.now ys.now }
 {
-    let mut i = 0;
-    while i < xs.len() {
-        out[i] = xs[i] - ys[i];
-        i += 1;
+    for (i, x) in xs.iter().enumerate() {
+        out[i] = *x - ys[i];
     }
 }
 
-// The larger of x and 1e-12, and 1e-12 for a NaN.
+// The larger of x and 1e-12, and 1e-12 for a NaN. By tests: the library's `max` says its result only where the two are unequal.
 fn at_least_floor(x: f32) -> f32
     ensures { result ≡ larger x floor }
 {
@@ -273,66 +211,6 @@ fn residual_scales(d: &[f32], e: &[f32], rms: f32) -> Scales
     }
 }
 
-// Both stages, in working arrays that fit.
-fn store_residual(
-    boundaries: &[f32],
-    centroids: &[f32],
-    rotated: &[f32],
-    bits: u8,
-    fresh: bool,
-    d: &mut [f32],
-    rest: &mut [f32],
-    e: &mut [f32],
-    block: &mut [u8],
-    block2: &mut [u8],
-) -> Scales
-    requires block_value { codable bits (length boundaries.now) (length rotated.now) (length block.old) ≡ true }
-    requires block2_len { length block2.old ≡ length block.old }
-    requires d_len { (length d.old ≡ length rotated.now) × (length rest.old ≡ length rotated.now) × (length e.old ≡ length rotated.now) }
-    ensures { stages result block.new block2.new
-        ≡ stored_both bits (spares_after fresh bits (length rotated.now) block.old block2.old)
-        (residual (table boundaries.now centroids.now) rotated.now) }
-{
-    store(boundaries, centroids, rotated, bits, fresh, d, block);
-    let rms = scale_rest(rotated, d, rest);
-    store(boundaries, centroids, rest, bits, fresh, e, block2);
-    residual_scales(d, e, rms)
-}
-
-// The codes of a rotated vector, and those of what they leave of it, into the blocks of a slot of a residual index.
-fn encode_residual(
-    boundaries: &[f32],
-    centroids: &[f32],
-    rotated: &[f32],
-    bits: u8,
-    fresh: bool,
-    block: &mut [u8],
-    block2: &mut [u8],
-) -> Scales
-    requires block_value { codable bits (length boundaries.now) (length rotated.now) (length block.old) ≡ true }
-    requires block2_len { length block2.old ≡ length block.old }
-    ensures { stages result block.new block2.new
-        ≡ stored_both bits (spares_after fresh bits (length rotated.now) block.old block2.old)
-        (residual (table boundaries.now centroids.now) rotated.now) }
-{
-    let n = rotated.len();
-    let mut d = floats();
-    let mut rest = floats();
-    let mut e = floats();
-    store_residual(
-        boundaries,
-        centroids,
-        rotated,
-        bits,
-        fresh,
-        &mut d[0..n],
-        &mut rest[0..n],
-        &mut e[0..n],
-        block,
-        block2,
-    )
-}
-
 // ---- a whole vector
 
 // Whether a vector of so many entries can be coded as the header says, into blocks of so many bytes.
@@ -352,47 +230,7 @@ fn is_encodable(
     if !is_codable(header.bits, boundaries, padded, block) {
         return false;
     }
-    if header.residual {
-        return block2 == block;
-    }
-    true
-}
-
-// A vector, rotated, into the slot's blocks.
-fn store_vector(
-    header: Header,
-    fresh: bool,
-    boundaries: &[f32],
-    centroids: &[f32],
-    v: &[f32],
-    rotated: &mut [f32],
-    block: &mut [u8],
-    block2: &mut [u8],
-) -> Scales
-    requires block2_value { encodable header (length boundaries.now) (length v.now) (length block.old) (length block2.old) ≡ true }
-    requires rotated_len { length rotated.old ≡ padded header }
-    ensures { stages result block.new block2.new
-        ≡ placed
-        (encoded_by_table (table boundaries.now centroids.now) header
-        (spares_after fresh header.bits (padded header) block.old block2.old) (item_of v.now))
-        block2.old }
-{
-    unit::rotate(header.working_dim, header.seed, v, rotated);
-    if header.residual {
-        return encode_residual(
-            boundaries,
-            centroids,
-            rotated,
-            header.bits,
-            fresh,
-            block,
-            block2,
-        );
-    }
-    Scales {
-        scale: encode_plain(boundaries, centroids, rotated, header.bits, fresh, block),
-        scale2: 0,
-    }
+    !header.residual || block2 == block
 }
 
 // What a slot stores of a vector, into its blocks, with the scales' patterns as the result: `fresh` for an appended slot, else over the old codes.
@@ -415,16 +253,20 @@ pub fn encode(
             scale2: 0,
         };
     }
-    let padded = padding::padded_dim(header.working_dim);
-    let mut rotated = floats();
-    store_vector(
-        header,
-        fresh,
+    let mut all = [0.0f32; 4096];
+    let rotated = &mut all[..padding::padded_dim(header.working_dim)];
+    unit::rotate(header.working_dim, header.seed, v, rotated);
+    let coder = Coder {
         boundaries,
         centroids,
-        v,
-        &mut rotated[0..padded],
-        block,
-        block2,
-    )
+        bits: header.bits,
+        fresh,
+    };
+    if header.residual {
+        return coder.encode_residual(rotated, block, block2);
+    }
+    Scales {
+        scale: coder.encode_plain(rotated, block),
+        scale2: 0,
+    }
 }

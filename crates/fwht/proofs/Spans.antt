@@ -16,7 +16,7 @@ use Rattle.fwht.proofs.Passes.{pass-length}
 
 -- a power of two is whole blocks of each lower one
 power-blocks : (j k : ℕ) → j ≤ k → Blocks (2 ^ j) (2 ^ k)
-power-blocks j k l = record { positive = pow_pos j; count = (2 ^ (k - j), ap (λ (z : ℕ). 2 ^ z) {y = k - j + j} (omega arith) ∙ pow-add 2 (k - j) j) }
+power-blocks j k l = record { positive = pow_pos j; some = pow_mono l; count = (2 ^ (k - j), ap (λ (z : ℕ). 2 ^ z) {y = k - j + j} (omega arith) ∙ pow-add 2 (k - j) j) }
 
 module _ {A : Type 0} (d : A) (plus minus : A → A → A) where
   pub passes-length : (k : ℕ) (v : List A) → length (passes d plus minus k v) ≡ length v
@@ -59,9 +59,6 @@ module _ {A : Type 0} (d : A) (plus minus : A → A → A) where
 
     pub spanned-positive : 0 < h
     spanned-positive = rw s.span (pow_pos s.count)
-
-    pub spanned-within : h ≤ length v
-    spanned-within = rw (s.span, ← s.power) (pow_mono s.within)
 
     -- where the span after k more is below the length, there are suc k more
     module _ (k : ℕ) (l : 2 ^ k * h < length v) where

@@ -1,9 +1,8 @@
 -- The passes over one block, column after column: each column's transform by itself.
 use mathlib.Core.List.{List, [], ◌∷◌}
 use mathlib.Core.Path.{◌≡◌, refl, sym, ap, ◌∙◌}
-use Prim.Native.Nat.{ℕ, zero, suc, ◌+◌, ◌*◌, ◌^◌, ◌≤◌, ◌<◌}
+use Prim.Native.Nat.{ℕ, zero, suc, ◌*◌, ◌^◌, ◌≤◌, ◌<◌}
 use native.Mathlib.Nat.{one-mul, le_refl, le_antisymm, zero-lt-suc}
-use native.Mathlib.Numerals.{add-one}
 use native.Mathlib.Decide.{dec_lt}
 use native.Mathlib.Omega.{arith}
 use lib.ListN.{length}
@@ -67,24 +66,11 @@ module _ {A : Type 0} (d : A) (plus minus : A → A → A) where
       (λ t l. done k (suc g) v e (suc g) t (le_refl (suc g)) l ∙ sym (column-spans d plus minus k (suc g) t (2 ^ k) 1 v l e)
       ∙ ap (λ (x : ℕ). column d (suc g) t (2 ^ k) (spans d plus minus x k v)) (one-mul (suc g)))
 
-  -- the one column of adjacent places
-  pub turned-one : (k : ℕ) (v : List A) → length v ≡ 2 ^ k * 1 → turned d plus minus k 1 0 v ≡ spans d plus minus 1 k v
-  turned-one k v e = turns-all k 1 v e
-
   -- w is v after the transforms of its first j columns
   pub record Turning (k h j : ℕ) (v w : List A) : Type 0 where
     pub within : j ≤ h
     pub work : w ≡ turns k h j v
 
-  pub turning-none : (k h : ℕ) (v : List A) → Turning k h 0 v v
-  turning-none k h v = record { within = omega arith; work = refl }
-
   module _ (k h j : ℕ) (v w : List A) (s : Turning k h j v w) where
-    pub turning-length : length w ≡ length v
-    turning-length = ap length s.work ∙ turns-length k h j v
-
-    pub turning-more : (x : List A) → j < h → x ≡ turned d plus minus k h j w → Turning k h (j + 1) v x
-    turning-more x l e = record { within = omega arith; work = rw (add-one j) (e ∙ ap (turned d plus minus k h j) s.work) }
-
     pub turning-all : h ≤ j → length v ≡ 2 ^ k * h → w ≡ spans d plus minus h k v
     turning-all l e = s.work ∙ ap (λ (z : ℕ). turns k h z v) (le_antisymm s.within l) ∙ turns-all k h v e

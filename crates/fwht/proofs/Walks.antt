@@ -30,33 +30,31 @@ module _ {A : Type 0} (d : A) (plus minus : A → A → A) (k h : ℕ) where
     pub walked-length : length w ≡ length v
     walked-length = ap length s.work ∙ simp (length-append, length-drop) (omega (arith, front_length, s.within))
 
-    pub walked-fits : Blocks (2 ^ k * h) (length v) → i < length v → i + 2 ^ k * h ≤ length v
-    walked-fits b l = omega (arith, s.count.1, block-fits (2 ^ k * h) s.count.0 b.count.0 (length v) b.count.1 (omega (arith, s.count.1)))
+    -- the next block, which the program counts as p * h places
+    module _ (p : ℕ) (places : p ≡ 2 ^ k) (b : Blocks (2 ^ k * h) (length v)) (l : i < length v) where
+      abbrev size : ℕ
+      size = i + p * h - i
 
-    -- as many places as a block, as the program counts them
-    abbrev size : ℕ
-    size = i + 2 ^ k * h - i
+      size_is : size ≡ 2 ^ k * h
+      size_is = rw places (omega arith)
 
-    size_is : size ≡ 2 ^ k * h
-    size_is = omega arith
+      pub walked_fits : i + p * h ≤ length w
+      walked_fits = rw (places, walked-length) (omega (arith, s.count.1, block-fits (2 ^ k * h) s.count.0 b.count.0 (length v) b.count.1 (omega (arith, s.count.1))))
 
-    -- the part that is handed on is one block
-    pub walked-part : i + 2 ^ k * h ≤ length v → length (mid_of i size w) ≡ 2 ^ k * h
-    walked-part l = length-take-le size (drop i w) (rw length-drop (omega (arith, walked-length))) ∙ size_is
-
-    pub walked_more : (part : List A) → i + 2 ^ k * h ≤ length v → 0 < h → part ≡ spans d plus minus h k (mid_of i size w) → Walked (i + 2 ^ k * h) v (put_mid i size w part)
-    walked_more part l p q =
-        let ends : drop i w ≡ drop i v = ap (drop i) s.work ∙ drop_at front (drop i v) i front_length in
-        let starts : take i w ≡ front = ap (take i) s.work ∙ take_at front (drop i v) i front_length in
-        record {
-          count = (s.count.0 + 1, omega (arith, s.count.1));
-          within = l;
-          work =
-              rw (q, ends, starts, drop-drop, size_is, ← append_assoc)
-              (ap (λ (a : List A). a ++ drop (i + 2 ^ k * h) v)
-              (sym (spans-append d plus minus k h s.count.0 (take i v) (take (2 ^ k * h) (drop i v)) p (length-take-le i v s.within ∙ s.count.1))
-              ∙ ap (spans d plus minus h k) (sym (take-add i (2 ^ k * h) v))));
-        }
+      pub walked_more : (part : List A) → part ≡ spans d plus minus h k (mid_of i size w) → Walked (i + p * h) v (put_mid i size w part)
+      walked_more part q =
+          let ends : drop i w ≡ drop i v = ap (drop i) s.work ∙ drop_at front (drop i v) i front_length in
+          let starts : take i w ≡ front = ap (take i) s.work ∙ take_at front (drop i v) i front_length in
+          let positive : 0 < h = grind (arith, b.positive) in
+          record {
+            count = (s.count.0 + 1, rw places (omega (arith, s.count.1)));
+            within = omega (arith, walked_fits, walked-length);
+            work =
+                rw (q, ends, starts, drop-drop, size_is, ← append_assoc, places)
+                (ap (λ (a : List A). a ++ drop (i + 2 ^ k * h) v)
+                (sym (spans-append d plus minus k h s.count.0 (take i v) (take (2 ^ k * h) (drop i v)) positive (length-take-le i v s.within ∙ s.count.1))
+                ∙ ap (spans d plus minus h k) (sym (take-add i (2 ^ k * h) v))));
+          }
 
     pub walked_all : length v ≤ i → w ≡ spans d plus minus h k v
     walked_all l =

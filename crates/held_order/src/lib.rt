@@ -7,21 +7,13 @@ ghost use Rattle.lists.specs.Lists.{tab, below};
 ghost use Rattle.held_order.specs.Restored.{rising_position, restored};
 ghost use Rattle.held_order.specs.Placed.{after_entry, Placed};
 
-fn wide(x: u32) -> usize
-    ensures { result ≡ x }
-{
-    x as usize
-}
-
 // The slots themselves, as a list.
 fn number(held: &mut [u32])
     requires { length held.old ≤ 65536 }
     ensures { held.new ≡ below (length held.old) }
 {
-    let mut i: usize = 0;
-    while i < held.len() {
-        held[i] = i as u32;
-        i += 1;
+    for (i, slot) in held.iter_mut().enumerate() {
+        *slot = i as u32;
     }
 }
 
@@ -36,15 +28,13 @@ fn next_position(held: &[u32], entry: usize) -> u32
     held[entry - 1] + 1
 }
 
-// Gives each slot the position after that of its entry's slot.
+// Gives each slot the position after that of its entry's slot. By index: a position is read that an earlier step wrote.
 fn place_all(before: &[u32], held: &mut [u32])
     requires { (length held.old ≤ length before.now) × (length held.old ≤ 65536) × ((j : ℕ) → j < length held.old → get_or before.now j 0 ≤ j) }
     ensures { Placed before.now held.new (length held.old) }
 {
-    let mut i: usize = 0;
-    while i < held.len() {
-        held[i] = next_position(held, wide(before[i]));
-        i += 1;
+    for i in 0..held.len() {
+        held[i] = next_position(held, before[i] as usize);
     }
 }
 
@@ -58,17 +48,20 @@ fn restore(keys: &[u64], keyed: &[bool], held: &mut [u32], before: &mut [u32])
     place_all(before, held);
 }
 
-// Functions of their own, so that no proof meets so many zeros.
-fn room() -> [u32; 65536] {
-    [0; 65536]
-}
-
-fn small_room() -> [u32; 1024] {
-    [0; 1024]
+// Makes held order rise in at most N slots, by way of an array for so many.
+fn restore_in<const N: usize>(keys: &[u64], keyed: &[bool], held: &mut [u32])
+    requires { (length held.old ≤ N) × (N ≤ 65536) }
+    ensures { held.new ≡ tab (rising_position keys.now keyed.now) (length held.old) }
+{
+    let n = held.len();
+    let mut before = [0u32; N];
+    let before = &mut before[..];
+    restore(keys, keyed, held, &mut before[..n]);
 }
 
 // Makes held order rise in the first n slots. Nothing where they are more than 65,536 or than there are places. Few by way of a small array: clearing the
 // large one would take longer.
+#[tactic(auto, unfolding(crate::specs::Restored::restored))]
 pub fn restore_order(keys: &[u64], keyed: &[bool], held: &mut [u32], n: usize)
     ensures { held.new ≡ restored keys.now keyed.now n held.old }
 {
@@ -76,12 +69,8 @@ pub fn restore_order(keys: &[u64], keyed: &[bool], held: &mut [u32], n: usize)
         return;
     }
     if n <= 1024 {
-        let mut before = small_room();
-        restore(keys, keyed, &mut held[0..n], &mut before[0..n]);
-        return;
-    }
-    if n <= 65536 {
-        let mut before = room();
-        restore(keys, keyed, &mut held[0..n], &mut before[0..n]);
+        restore_in::<1024>(keys, keyed, &mut held[..n]);
+    } else if n <= 65536 {
+        restore_in::<65536>(keys, keyed, &mut held[..n]);
     }
 }

@@ -1,13 +1,11 @@
 -- What linking leaves, and what the last number that passes a test says about how many do.
 use mathlib.Core.Path.{◌≡◌, refl, ap, sym, ◌∙◌}
-use mathlib.Core.Bool.{Bool, true, false, cond, and-false}
+use mathlib.Core.Bool.{Bool, true, false, cond}
 use mathlib.Core.List.{List, [], ◌∷◌, ◌++◌}
-use Prim.Native.Nat.{ℕ, zero, suc, ◌+◌, ◌-◌, ◌≤◌, ◌<◌}
-use native.Mathlib.Nat.{sub-zero}
+use Prim.Native.Nat.{ℕ, zero, suc, ◌+◌, ◌≤◌, ◌<◌}
 use native.Mathlib.Omega.{arith}
 use lib.ListN.{length, drop, get_or}
-use lib.Dec.{leb}
-use borrow.Author.Tests.{le-leb, lt-leb}
+use borrow.Author.Tests.{le-leb}
 use Rattle.lists.specs.Lists.{tab, over, below}
 use Rattle.lists.specs.Keep.{bit, count}
 use Rattle.lists.proofs.Laws.{length-tab}
@@ -21,17 +19,9 @@ module _ (keys : List ℕ) (keyed : List Bool) (slots before : List ℕ) where
 
   -- the entries, put back where they were lent
   pub linked-part : length slots ≤ 65536 → length slots ≤ length before → {part : List ℕ} → part ≡ tab (previous keys keyed slots) (length slots) →
-      part ++ drop (length slots - 0) before ≡ linked keys keyed slots before
+      part ++ drop (length slots) before ≡ linked keys keyed slots before
   unfolding over
-  linked-part few room e = rw (e, sub-zero (length slots)) (sym (linked-all few room ∙ rw (length-tab (previous keys keyed slots) (length slots))))
-
-  pub linked-many : 65536 < length slots → linked keys keyed slots before ≡ before
-  unfolding linked
-  linked-many l = rw (lt-leb (length slots) 65536 l)
-
-  pub linked-short : length before < length slots → linked keys keyed slots before ≡ before
-  unfolding linked
-  linked-short l = rw (lt-leb (length slots) (length before) l, and-false (leb (length slots) 65536))
+  linked-part few room e = rw e (sym (linked-all few room ∙ rw (length-tab (previous keys keyed slots) (length slots))))
 
 module _ (p : ℕ → Bool) where
   count-more : (n : ℕ) → count p (below (suc n)) ≡ count p (below n) + bit (p n)

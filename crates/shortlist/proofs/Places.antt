@@ -3,8 +3,8 @@ use mathlib.Core.Path.{◌≡◌, refl, ap, sym, ◌∙◌}
 use mathlib.Core.Bool.{Bool, true, false, cond}
 use mathlib.Core.List.{List, [], ◌++◌, map, map-map, map-id}
 use mathlib.Core.Logic.{◌⊎◌}
-use Prim.Native.Nat.{ℕ, ◌-◌, max, ◌≤◌, ◌<◌}
-use native.Mathlib.Nat.{sub-zero, add-zero, zero-add}
+use Prim.Native.Nat.{ℕ, max, ◌≤◌, ◌<◌}
+use native.Mathlib.Nat.{add-zero, zero-add}
 use native.Mathlib.Omega.{arith}
 use lib.ListN.{length, take, drop, get_or, length-map, get_or-map}
 use lib.Seq.{length-take-le, take_at, take-append_seam, drop-append_seam, get_or-append-add, get_or-drop, sets, sets-eq}
@@ -112,18 +112,18 @@ module _ (orders : List ℕ) (k n t : ℕ) (least : n ≡ max k 1) (positive : 0
 -- ---- parts of arrays
 
 -- the first places, once xs was written to them
-pub written-part : (xs places : List ℕ) {n : ℕ} → n ≡ length xs → n ≤ length places → take (n - 0) (sets places 0 xs) ≡ xs
+pub written-part : (xs places : List ℕ) {n : ℕ} → n ≡ length xs → n ≤ length places → take n (sets places 0 xs) ≡ xs
 written-part xs places {n} e h =
-    rw (sub-zero n, sets-eq xs places 0 (omega arith), zero-add (length xs)) (take_at xs (drop (length xs) places) n (sym e))
+    rw (sets-eq xs places 0 (omega arith), zero-add (length xs)) (take_at xs (drop (length xs) places) n (sym e))
 
 pub over-reach : (xs places : List ℕ) {n : ℕ} {now : List ℕ} → n ≡ length xs → now ≡ over xs places → length xs ≤ length places → n ≤ length now
 over-reach xs places e w h = rw (w, length_over xs places h) (omega arith)
 
 -- f of each entry that was written over the first places
-pub over-part : (f : ℕ → ℕ) (xs places : List ℕ) {n : ℕ} {now last : List ℕ} → n ≡ length xs → now ≡ over xs places → last ≡ map f (take (n - 0) now) → last ++ drop (n - 0) now ≡ over (map f xs) places
+pub over-part : (f : ℕ → ℕ) (xs places : List ℕ) {n : ℕ} {now last : List ℕ} → n ≡ length xs → now ≡ over xs places → last ≡ map f (take n now) → last ++ drop n now ≡ over (map f xs) places
 unfolding over
 over-part f xs places {n} e w l =
-    rw (l, w, sub-zero n, e, take-append_seam xs (drop (length xs) places), drop-append_seam xs (drop (length xs) places), length-map xs f)
+    rw (l, w, e, take-append_seam xs (drop (length xs) places), drop-append_seam xs (drop (length xs) places), length-map xs f)
 
 -- where a loop stands that fills places from the front, the place is as it was
 pub begun-here : (l d : List ℕ) (i : ℕ) → i ≤ length l → get_or (begun l d i) i 0 ≡ get_or d i 0
@@ -133,11 +133,11 @@ begun-here l d i h = rw (add-zero (length (take i l)), length-take-le i l h) at 
 
 module _ (orders : List ℕ) (k n t m : ℕ) (least : n ≡ max k 1) (positive : 0 < t) (many : m ≡ length (shortened n t orders)) (room : (m ≤ 4096) × ((n ≤ m) ⊎ (t ≡ 1))) (few : length orders ≤ 65536) where
   pub answers : (names₀ numbers₀ : List ℕ) {names numbers : List ℕ} → length names₀ ≡ 4096 → length numbers₀ ≡ 4096 → names ≡ sets names₀ 0 (map slot (shortened n t orders)) → numbers ≡ sets numbers₀ 0 (map ord (shortened n t orders)) →
-      (slots : List ℕ) {r : ℕ} {after : List ℕ} → r ≡ length (listed_within (take (m - 0) numbers) k slots) → after ≡ over (map (λ i. get_or (take (m - 0) names) i 0) (listed_within (take (m - 0) numbers) k slots)) slots →
+      (slots : List ℕ) {r : ℕ} {after : List ℕ} → r ≡ length (listed_within (take m numbers) k slots) → after ≡ over (map (λ i. get_or (take m names) i 0) (listed_within (take m numbers) k slots)) slots →
       (r ≡ length (listed_within orders k slots)) × (after ≡ over (listed_within orders k slots) slots)
   answers names₀ numbers₀ {names} {numbers} l l' p q slots {r} {after} e f =
       let short : List (ℕ × ℕ) = shortened n t orders in
-      let front : take (m - 0) names ≡ map slot short = rw p (written-part (map slot short) names₀ (many ∙ sym (length-map short slot)) (omega (arith, room.0))) in
-      let front' : take (m - 0) numbers ≡ map ord short = rw q (written-part (map ord short) numbers₀ (many ∙ sym (length-map short ord)) (omega (arith, room.0))) in
+      let front : take m names ≡ map slot short = rw p (written-part (map slot short) names₀ (many ∙ sym (length-map short slot)) (omega (arith, room.0))) in
+      let front' : take m numbers ≡ map ord short = rw q (written-part (map ord short) numbers₀ (many ∙ sym (length-map short ord)) (omega (arith, room.0))) in
       let same : map (λ i. get_or (map slot short) i 0) (listed_within (map ord short) k slots) ≡ listed_within orders k slots = answered-short orders k n t least positive (rw many at room.1) few (omega (arith, room.0)) slots in
       (rw front' at e ∙ sym (length-map (listed_within (map ord short) k slots) (λ i. get_or (map slot short) i 0)) ∙ ap length same, rw (front, front', same) at f)

@@ -1,13 +1,13 @@
 -- A loop that writes the shortlist.
 use mathlib.Core.Path.{◌≡◌, ap, ◌∙◌}
-use mathlib.Core.Bool.{Bool, true, false, cond}
+use mathlib.Core.Bool.{true, false, cond}
 use mathlib.Core.List.{List, [], ◌∷◌, ◌++◌, map, map-append}
 use Prim.Native.Nat.{ℕ, ◌+◌, ◌≤◌, ◌<◌}
 use native.Mathlib.Nat.{zero-add}
 use native.Mathlib.Numerals.{add-one}
 use native.Mathlib.Omega.{arith}
 use lib.ListN.{length, take, get_or, set, length-append, length-take, length-map}
-use lib.Seq.{take-nil, drop-nil, take-suc, take_all, sets, length-sets}
+use lib.Seq.{take-nil, drop-nil, take-suc, take_all, sets}
 use Rattle.lists.specs.Keep.{numbered}
 use Rattle.choose.specs.Falling.{reaches}
 use Rattle.lists.proofs.Keep.{count-length, length-numbered, get_d_numbered, sets-append}
@@ -42,10 +42,6 @@ module _ {orders : List ℕ} {t n : ℕ} {names₀ numbers₀ names numbers : Li
   shortening-few =
       omega (arith, s.many, short-length ord n t (take i (numbered 0 orders)), count-length (reaches ord t) (take i (numbered 0 orders)), length-take i (numbered 0 orders))
 
-  pub shortening-lengths : (length names ≡ length names₀) × (length numbers ≡ length numbers₀)
-  shortening-lengths =
-      (ap length s.slots-in ∙ length-sets names₀ 0 (map slot (first n t orders i)), ap length s.orders-in ∙ length-sets numbers₀ 0 (map ord (first n t orders i)))
-
   -- what the loop leaves where it ends
   pub shortening-all : length orders ≤ i →
       (m ≡ length (shortened n t orders)) × (names ≡ sets names₀ 0 (map slot (shortened n t orders))) × (numbers ≡ sets numbers₀ 0 (map ord (shortened n t orders)))
@@ -70,15 +66,17 @@ module _ {orders : List ℕ} {t n : ℕ} {names₀ numbers₀ names numbers : Li
     written places f e =
         rw (map-append f (first n t orders i) ((i, order) ∷ []), sets-append places 0 (map f (first n t orders i)) (f (i, order) ∷ []), ← e, zero-add (length (map f (first n t orders i))), length-map (first n t orders i) f, ← s.many)
 
-    pub shortening-next : {names' numbers' : List ℕ} {m' : ℕ} → m' ≡ cond (is_kept order t n m) (m + 1) m → names' ≡ cond (is_kept order t n m) (set names m i) names → numbers' ≡ cond (is_kept order t n m) (set numbers m order) numbers → Shortening orders t n names₀ numbers₀ names' numbers' m' (i + 1)
-    shortening-next {names'} {numbers'} {m'} = go (is_kept order t n m) next
-      where
-        go : (b : Bool) → first n t orders (i + 1) ≡ cond b (first n t orders i ++ ((i, order) ∷ [])) (first n t orders i) → m' ≡ cond b (m + 1) m → names' ≡ cond b (set names m i) names → numbers' ≡ cond b (set numbers m order) numbers → Shortening orders t n names₀ numbers₀ names' numbers' m' (i + 1)
-        go true e p q r =
-            record {
-              within = omega arith;
-              many = rw (e, p, length-append (first n t orders i) ((i, order) ∷ []), s.many);
-              slots-in = rw (e, q) (written names₀ slot s.slots-in);
-              orders-in = rw (e, r) (written numbers₀ ord s.orders-in);
-            }
-        go false e p q r = record { within = omega arith; many = rw (e, p) s.many; slots-in = rw (e, q) s.slots-in; orders-in = rw (e, r) s.orders-in }
+    pub shortening-kept : is_kept order t n m ≡ true → Shortening orders t n names₀ numbers₀ (set names m i) (set numbers m order) (m + 1) (i + 1)
+    shortening-kept kept =
+        let e : first n t orders (i + 1) ≡ first n t orders i ++ ((i, order) ∷ []) = rw kept at next in
+        record {
+          within = omega arith;
+          many = rw (e, length-append (first n t orders i) ((i, order) ∷ []), s.many);
+          slots-in = rw e (written names₀ slot s.slots-in);
+          orders-in = rw e (written numbers₀ ord s.orders-in);
+        }
+
+    pub shortening-other : is_kept order t n m ≡ false → Shortening orders t n names₀ numbers₀ names numbers m (i + 1)
+    shortening-other not =
+        let e : first n t orders (i + 1) ≡ first n t orders i = rw not at next in
+        record { within = omega arith; many = rw e s.many; slots-in = rw e s.slots-in; orders-in = rw e s.orders-in }

@@ -4,22 +4,16 @@
 // above, and no other slot can be chosen.
 #![tactic(auto)]
 
-ghost use Rattle.std.specs.Prelude.{◌≡◌, true, cond, map, ◌⊎◌, ◌+◌, ◌*◌, ◌<◌, ◌≤◌, max, length, get_or, set};
+ghost use Rattle.std.specs.Prelude.{◌≡◌, true, map, ◌⊎◌, ◌*◌, ◌<◌, ◌≤◌, length, get_or, set};
 ghost use Rattle.std.proofs.lemmas.List.Edits.{sets};
 ghost use Rattle.lists.specs.Lists.{over};
 ghost use Rattle.choose_slots.specs.Slots.{listed_within};
 ghost use Rattle.shortlist.specs.Shortlist.{is_kept, shortened};
 
-// A function of its own, so that no proof meets 4,096 zeros.
-fn room() -> [u32; 4096] {
-    [0; 4096]
-}
-
 fn entry(from: &[u32], place: u32) -> u32
     ensures { result ≡ get_or from.now place 0 }
 {
-    let i = place as usize;
-    if i < from.len() { from[i] } else { 0 }
+    from.get(place as usize).copied().unwrap_or(0)
 }
 
 // ---- the guess, on which only speed rests
@@ -28,21 +22,20 @@ fn entry(from: &[u32], place: u32) -> u32
 fn draw(orders: &[u32], sample: &mut [u32])
     requires { length sample.old * 33 ≤ length orders.now }
 {
-    let mut i: usize = 0;
-    while i < sample.len() {
-        sample[i] = orders[i * 33];
-        i += 1;
+    for (i, order) in sample.iter_mut().enumerate() {
+        *order = orders[i * 33];
     }
 }
 
 // The order number at a place of the list of chosen slots, 0 where the list ends before.
 fn chosen_order(orders: &[u32], place: u32) -> u32 {
-    let mut slots = room();
+    let mut slots = [0u32; 4096];
     let n = choose_slots::choose(orders, place as usize + 1, &mut slots);
     if n <= place as usize {
-        return 0;
+        0
+    } else {
+        entry(orders, entry(&slots, place))
     }
-    entry(orders, entry(&slots, place))
 }
 
 // A number that n order numbers are likely to reach, and not many more: at least 1, which all slots that take part reach.
@@ -50,11 +43,10 @@ fn guess(orders: &[u32], n: usize) -> u32
     requires { (length orders.now ≤ 65536) × (n ≤ 65536) }
     ensures { 0 < result }
 {
-    let mut sample = room();
+    let mut sample = [0u32; 4096];
     let m = orders.len() / 33;
-    draw(orders, &mut sample[0..m]);
-    let t = chosen_order(&sample[0..m], (n / 32 + n / 128 + 15) as u32);
-    if t == 0 { 1 } else { t }
+    draw(orders, &mut sample[..m]);
+    chosen_order(&sample[..m], (n / 32 + n / 128 + 15) as u32).max(1)
 }
 
 // ---- the shortlist
@@ -62,41 +54,16 @@ fn guess(orders: &[u32], n: usize) -> u32
 fn is_kept(order: u32, t: u32, n: usize, m: usize) -> bool
     ensures { result ≡ is_kept order t n m }
 {
-    if order < t {
-        return false;
-    }
-    t < order || m < n
+    t <= order && (t < order || m < n)
 }
 
+// By a test and an index: a write through get_mut says nothing of the entries.
 fn put(places: &mut [u32], i: usize, x: u32)
     ensures { places.new ≡ set places.old i x }
 {
     if i < places.len() {
         places[i] = x;
     }
-}
-
-// Puts a slot on the shortlist, which has m, if it belongs there. Returns how many there are then.
-fn pass(
-    slot: u32,
-    order: u32,
-    t: u32,
-    n: usize,
-    m: usize,
-    names: &mut [u32],
-    numbers: &mut [u32],
-) -> usize
-    requires { m ≤ 65536 }
-    ensures { (result ≡ cond (is_kept order t n m) (m + 1) m)
-        × (names.new ≡ cond (is_kept order t n m) (set names.old m slot) names.old)
-        × (numbers.new ≡ cond (is_kept order t n m) (set numbers.old m order) numbers.old) }
-{
-    if is_kept(order, t, n, m) {
-        put(names, m, slot);
-        put(numbers, m, order);
-        return m + 1;
-    }
-    m
 }
 
 // Writes the slots of the shortlist and their order numbers, as far as there are places, and returns how many there are.
@@ -107,10 +74,12 @@ fn shorten(orders: &[u32], t: u32, n: usize, names: &mut [u32], numbers: &mut [u
         × (numbers.new ≡ sets numbers.old 0 (map (λ e. e.1) (shortened n t orders.now))) }
 {
     let mut m: usize = 0;
-    let mut i: usize = 0;
-    while i < orders.len() {
-        m = pass(i as u32, orders[i], t, n, m, names, numbers);
-        i += 1;
+    for (slot, order) in orders.iter().enumerate() {
+        if is_kept(*order, t, n, m) {
+            put(names, m, slot as u32);
+            put(numbers, m, *order);
+            m += 1;
+        }
     }
     m
 }
@@ -119,10 +88,7 @@ fn shorten(orders: &[u32], t: u32, n: usize, names: &mut [u32], numbers: &mut [u
 fn is_short(n: usize, t: u32, m: usize) -> bool
     ensures { result ≡ true → (m ≤ 4096) × ((n ≤ m) ⊎ (t ≡ 1)) }
 {
-    if 4096 < m {
-        return false;
-    }
-    n <= m || t == 1
+    m <= 4096 && (n <= m || t == 1)
 }
 
 // ---- the choice
@@ -131,10 +97,8 @@ fn is_short(n: usize, t: u32, m: usize) -> bool
 fn rename(names: &[u32], slots: &mut [u32])
     ensures { slots.new ≡ map (λ i. get_or names.now i 0) slots.old }
 {
-    let mut i: usize = 0;
-    while i < slots.len() {
-        slots[i] = entry(names, slots[i]);
-        i += 1;
+    for slot in slots.iter_mut() {
+        *slot = entry(names, *slot);
     }
 }
 
@@ -145,14 +109,8 @@ fn choose_among(names: &[u32], numbers: &[u32], k: usize, slots: &mut [u32]) -> 
         slots.old }
 {
     let n = choose_slots::choose(numbers, k, slots);
-    rename(names, &mut slots[0..n]);
+    rename(names, &mut slots[..n]);
     n
-}
-
-fn at_least_1(k: usize) -> usize
-    ensures { result ≡ max k 1 }
-{
-    if k == 0 { 1 } else { k }
 }
 
 fn choose_few(orders: &[u32], k: usize, slots: &mut [u32]) -> usize
@@ -160,13 +118,13 @@ fn choose_few(orders: &[u32], k: usize, slots: &mut [u32]) -> usize
     ensures value { result ≡ length (listed_within orders.now k slots.old) }
     ensures slots_after { slots.new ≡ over (listed_within orders.now k slots.old) slots.old }
 {
-    let n = at_least_1(k);
+    let n = k.max(1);
     let t = guess(orders, n);
-    let mut names = room();
-    let mut numbers = room();
+    let mut names = [0u32; 4096];
+    let mut numbers = [0u32; 4096];
     let m = shorten(orders, t, n, &mut names, &mut numbers);
     if is_short(n, t, m) {
-        return choose_among(&names[0..m], &numbers[0..m], k, slots);
+        return choose_among(&names[..m], &numbers[..m], k, slots);
     }
     choose_slots::choose(orders, k, slots)
 }
@@ -175,13 +133,7 @@ fn choose_few(orders: &[u32], k: usize, slots: &mut [u32]) -> usize
 fn is_few(k: usize, all: usize) -> bool
     ensures { result ≡ true → (all ≤ 65536) × (k ≤ 65536) }
 {
-    if all <= 1024 {
-        return false;
-    }
-    if 65536 < all {
-        return false;
-    }
-    k <= all / 32
+    1024 < all && all <= 65536 && k <= all / 32
 }
 
 // Writes the numbers of the chosen slots to the first places of `slots`, and returns how many there are: what `choose_slots::choose` does.

@@ -1,3 +1,2 @@
 -- Laws of sorted slots.
 pub mod Sorted
-mod Digits

@@ -21,7 +21,6 @@ use Rattle.index.specs.Call.{Result, call}
 use Rattle.index.specs.Answers.{result_of, byte_count, wrote, LaterKept}
 use Rattle.index.proofs.Calls.{call-misfit, call-answered}
 use Rattle.index.proofs.Determined.{entries-there}
-use Rattle.write.specs.Put.{PutFrom}
 use Rattle.write.specs.Pieces.{file_pieces}
 use Rattle.write.proofs.Pieces.{file-pieces}
 
@@ -79,16 +78,16 @@ module _ (x : Index) (a : Arrays) where
       pub write-short : (n : ℕ) → n ≡ length file → length old < n → Leaves (turned_down 13) old
       write-short n f l = (answer (refused 13) (rw (lt-ltb (length old) (length file) (omega arith))), refl)
 
-      pub write_done : (v n next : ℕ) (new : List ℕ) → ((es : List Entry) → v ≡ version_of (header_of x) es) → n ≡ length file → n ≤ length old
-          → PutFrom (pieces v) 0 next old new → Leaves (taken n) new
+      pub write_done : (v n : ℕ) (new : List ℕ) → ((es : List Entry) → v ≡ version_of (header_of x) es) → n ≡ length file → n ≤ length old
+          → new ≡ sets old 0 (pieces v) → Leaves (taken n) new
       unfolding state_of over
-      write_done v n next new d f l p =
+      write_done v n new d f l p =
           let first = entries-there file old n new f there in
           (ap (λ (bs : List ℕ). result_of x a (bytes bs)) first.0 ∙ answer (bytes file) (rw (le-ltb (length old) (length file) (omega arith))), first.1)
         where
           there : new ≡ over file old
           there =
-              p.written ∙ ap (sets old 0) (pieces_are v d) ∙ sets-eq file old 0 (omega (arith, f))
+              p ∙ ap (sets old 0) (pieces_are v d) ∙ sets-eq file old 0 (omega (arith, f))
               ∙ ap (λ (k : ℕ). file ++ drop k old) (zero-add (length file))
 
   pub file-room : (v n m : ℕ) → ((es : List Entry) → v ≡ version_of (header_of x) es) → n ≡ length file → n ≤ m → 0 + length (pieces v) ≤ m

@@ -3,10 +3,10 @@ use mathlib.Core.Path.{◌≡◌, refl, sym, ap, ap₂, ◌∙◌}
 use mathlib.Core.Bool.{Bool, true, false, cond, ◌&&◌}
 use mathlib.Core.List.{List, [], ◌∷◌, ◌++◌, map, map-map, map-append}
 use mathlib.Core.Option.{Option, none, some}
-use Prim.Native.Nat.{ℕ, zero, suc, ◌+◌, ◌≤◌}
+use Prim.Native.Nat.{ℕ, zero, suc, ◌+◌}
 use native.Mathlib.Nat.{zero-add, add-zero, suc-add, add-suc}
 use native.Mathlib.Omega.{arith}
-use lib.ListN.{length, get_or}
+use lib.ListN.{length, get_or, length-append}
 use lib.Dec.{ltb}
 use borrow.Author.Tests.{lt-ltb}
 use Rattle.lists.specs.Lists.{tab, joined, below}
@@ -21,16 +21,17 @@ use Rattle.encode.specs.Header.{block_size}
 use Rattle.encode.specs.Coded.{Code}
 use Rattle.index.specs.Arrays.{Arrays}
 use Rattle.index.specs.State.{mark_of, stage_at, slot_at}
-use Rattle.index.specs.File.{Entry, le_bytes, version_of, width_byte, head_bytes, stage_bytes, second_stages, key_entries, file_of}
+use Rattle.index.specs.File.{Entry, le_bytes, version_of, width_byte, stage_bytes, second_stages, key_entries, file_of}
 use Rattle.index.specs.Step.{live_from, key_of_mark, file_bytes}
 use Rattle.index.proofs.Blocks.{joined-append}
 use Rattle.marks.specs.Live.{live_at}
 use Rattle.layout.specs.Counts.{entry_at, counts_of}
 use Rattle.layout.proofs.Length.{keyed-count}
 use Rattle.layout.proofs.Counting.{numbers, slot_entry, entries-are, live-many, keyed-many}
-use Rattle.write.specs.Put.{PutFrom}
+use Rattle.write.specs.declared.Writer.{Writer}
+use Rattle.write.specs.Put.{Room, Put}
 use Rattle.write.specs.Pieces.{in_order, scale_piece, code_piece, key_piece, stage_pieces, second_pieces, file_pieces}
-use Rattle.write.proofs.Putting.{put-room, room-first, order-more}
+use Rattle.write.proofs.Putting.{order-more}
 
 -- ---- blocks of those that pass a test
 
@@ -159,64 +160,17 @@ module _ (keys : List ℕ) (keyed : List Bool) (alive : List ℕ) (i number : �
   unfolding key_piece
   same-entry = ap (λ (v : ℕ). cond (entry_at keyed alive i) (le_bytes 4 v ++ le_bytes 8 (get_or keys i 0)) []) e
 
-  pub entry-room : (at m : ℕ) → at + length (key_piece keys keyed alive i) ≤ m → at + length entry_under ≤ m
-  entry-room at m l = rw same-entry l
+  pub entry-room : (w : Writer) → Room (key_piece keys keyed alive i) w → Room entry_under w
+  entry-room w l = rw same-entry l
 
-  pub entry-is : {at next : ℕ} {old new : List ℕ} → PutFrom entry_under at next old new → PutFrom (key_piece keys keyed alive i) at next old new
+  pub entry-is : {old new : Writer} → Put entry_under old new → Put (key_piece keys keyed alive i) old new
   entry-is p = rw same-entry at p
 
--- ---- room for each block
+-- ---- the blocks of a file, one after the other
 
--- what is written before each block
 module _ (v : ℕ) (h : Header) (codes scales keys : List ℕ) (keyed : List Bool) (alive codes2 scales2 : List ℕ) (n : ℕ) where
-  abbrev head : List ℕ
-  head = head_bytes v h (counts_of keyed alive n).live
-
-  abbrev to_stage : List ℕ
-  to_stage = head ++ width_byte v h
-
-  abbrev to_second : List ℕ
-  to_second = to_stage ++ stage_pieces codes scales alive (block_size h) n
-
-  abbrev to_table : List ℕ
-  to_table = to_second ++ second_pieces h.residual codes2 scales2 alive (block_size h) n
-
-  abbrev to_entries : List ℕ
-  to_entries = to_table ++ le_bytes 4 (counts_of keyed alive n).keyed
-
-  -- a file that is long enough for all has room for each block after what is written before it
-  module _ (old : List ℕ) (room : 0 + length (file_pieces v h codes scales keys keyed alive codes2 scales2 n) ≤ length old) where
-    whole : 0 + length (to_entries ++ in_order (key_piece keys keyed alive) n) ≤ length old
-    unfolding file_pieces
-    whole = room
-
-    to-entries : 0 + length to_entries ≤ length old
-    to-entries = room-first 0 (length old) to_entries (in_order (key_piece keys keyed alive) n) whole
-
-    to-table : 0 + length to_table ≤ length old
-    to-table = room-first 0 (length old) to_table (le_bytes 4 (counts_of keyed alive n).keyed) to-entries
-
-    to-second : 0 + length to_second ≤ length old
-    to-second = room-first 0 (length old) to_second (second_pieces h.residual codes2 scales2 alive (block_size h) n) to-table
-
-    to-stage : 0 + length to_stage ≤ length old
-    to-stage = room-first 0 (length old) to_stage (stage_pieces codes scales alive (block_size h) n) to-second
-
-    pub head-room : 24 ≤ length old
-    head-room = omega (arith, room-first 0 (length old) head (width_byte v h) to-stage)
-
-    module _ {at : ℕ} {mid : List ℕ} where
-      pub width_room : PutFrom head 0 at old mid → at + length (width_byte v h) ≤ length mid
-      width_room p = put-room p (width_byte v h) to-stage
-
-      pub stage-room : PutFrom to_stage 0 at old mid → at + length (stage_pieces codes scales alive (block_size h) n) ≤ length mid
-      stage-room p = put-room p (stage_pieces codes scales alive (block_size h) n) to-second
-
-      pub second-room : PutFrom to_second 0 at old mid → at + length (second_pieces h.residual codes2 scales2 alive (block_size h) n) ≤ length mid
-      second-room p = put-room p (second_pieces h.residual codes2 scales2 alive (block_size h) n) to-table
-
-      pub table-room : PutFrom to_table 0 at old mid → at + 4 ≤ length mid
-      table-room p = put-room p (le_bytes 4 (counts_of keyed alive n).keyed) to-entries
-
-      pub entries-room : PutFrom to_entries 0 at old mid → at + length (in_order (key_piece keys keyed alive) n) ≤ length mid
-      entries-room p = put-room p (in_order (key_piece keys keyed alive) n) whole
+  pub pieces-length : length (file_pieces v h codes scales keys keyed alive codes2 scales2 n)
+      ≡ 24 + length (width_byte v h) + length (stage_pieces codes scales alive (block_size h) n)
+      + length (second_pieces h.residual codes2 scales2 alive (block_size h) n) + 4 + length (in_order (key_piece keys keyed alive) n)
+  unfolding file_pieces
+  pieces-length = simp length-append (omega arith)

@@ -1,128 +1,65 @@
 -- Bytes put one after the other.
-use mathlib.Core.Path.{◌≡◌, refl, sym, ap, ◌∙◌}
-use mathlib.Core.Bool.{Bool, true, false, cond}
+use Rattle.std.proofs.Common.{◌≡◌, refl, sym, ap, ◌∙◌, Bool, true, false, cond, List, [], ◌∷◌, ◌++◌, ℕ, zero, suc, ◌+◌, ◌/◌, ◌%◌, ◌^◌, ◌≤◌, ◌<◌, arith, add-one, add-zero, length, take, drop, length-append}
 use mathlib.Core.Logic.{⊎_elim}
-use mathlib.Core.List.{List, [], ◌∷◌, ◌++◌, append-nil}
-use Prim.Native.Nat.{ℕ, zero, suc, ◌+◌, ◌/◌, ◌%◌, ◌^◌, ◌≤◌, ◌<◌}
-use native.Mathlib.Nat.{add-zero, eq-or-lt_of_le, le_of_suc-le-suc}
-use native.Mathlib.Numerals.{add-one}
-use native.Mathlib.Omega.{arith}
-use lib.ListN.{length, get_or, set, take, length-append}
-use lib.Seq.{sets, length-sets, take-suc, take-length, length-take-le}
+use mathlib.Core.List.{append-nil}
+use native.Mathlib.Nat.{eq-or-lt_of_le, le_of_suc-le-suc}
+use lib.Seq.{length-sets, sets-eq}
+use Rattle.std.specs.Int.{w64, byte_at, bytes_low_first, to_le_bytes}
 use Rattle.lists.specs.Lists.{tab, joined}
 use Rattle.lists.proofs.Keep.{sets-append}
 use Rattle.digits.specs.Digits.{digits}
-use Rattle.digits.proofs.Places.{div-pow-zero, div-first, div-last}
-use Rattle.digits.proofs.Digits.{length_digits}
-use Rattle.encode.specs.declared.Header.{Header}
-use Rattle.index.specs.File.{le_bytes, head_bytes}
+use Rattle.digits.proofs.Places.{div-pow-zero, div-last}
+use Rattle.digits.proofs.Digits.{take-digits}
+use Rattle.index.specs.File.{le_bytes}
 use Rattle.index.proofs.Blocks.{joined-append}
-use Rattle.write.specs.Put.{PutFrom}
+use Rattle.write.specs.declared.Writer.{Writer}
+use Rattle.write.specs.Put.{Room, Put}
 use Rattle.write.specs.Pieces.{in_order}
 
 -- ---- pieces
 
-pub put-none : (at : ℕ) (old : List ℕ) → PutFrom [] at at old old
-put-none at old = record { after = sym (add-zero at); written = refl }
+pub put-none : (w : Writer) → Put [] w w
+put-none w = record { after = sym (add-zero w.at); written = refl; same = refl; same_file = refl }
 
-module _ {ys : List ℕ} {start at : ℕ} {old mid : List ℕ} (p : PutFrom ys start at old mid) where
-  pub put-length : length mid ≡ length old
-  put-length = ap length p.written ∙ length-sets old start ys
+module _ {ys : List ℕ} {old mid : Writer} (p : Put ys old mid) where
+  pub put-room : (zs : List ℕ) → Room (ys ++ zs) old → Room zs mid
+  put-room zs h = omega (arith, length-append ys zs)
 
-  pub put-room : (zs : List ℕ) → start + length (ys ++ zs) ≤ length old → at + length zs ≤ length mid
-  put-room zs h = omega (arith, p.after, put-length, length-append ys zs)
-
-  pub put-more : {zs : List ℕ} {next : ℕ} {new : List ℕ} → PutFrom zs at next mid new → PutFrom (ys ++ zs) start next old new
-  put-more {zs} {next} {new} q =
+  pub put-more : {zs : List ℕ} {new : Writer} → Put zs mid new → Put (ys ++ zs) old new
+  put-more {zs} {new} q =
       record {
-        after = omega (arith, p.after, q.after, length-append ys zs);
-        written = q.written ∙ rw (p.written, p.after) (sym (sets-append old start ys zs));
+        after = omega (arith, length-append ys zs);
+        written = q.written ∙ rw (p.written, p.after) (sym (sets-append old.file.now old.at ys zs));
+        same = q.same ∙ p.same;
+        same_file = q.same_file ∙ p.same_file;
       }
 
+-- a copy between what stands before it and after
+pub put-copied : (bytes : List ℕ) (old : Writer) {new : Writer} → Room bytes old → new.at ≡ old.at + length bytes
+    → new.file.now ≡ take old.at old.file.now ++ bytes ++ drop (old.at + length bytes) old.file.now → new.file.ghost_name ≡ old.file.ghost_name → Put bytes old new
+put-copied bytes old h a e f =
+    let w = e ∙ sym (sets-eq bytes old.file.now old.at h) in
+    record { after = a; written = w; same = ap length w ∙ length-sets old.file.now old.at bytes; same_file = f }
+
 -- what is long enough for all is long enough for the first
-pub room-first : (s m : ℕ) (ys zs : List ℕ) → s + length (ys ++ zs) ≤ m → s + length ys ≤ m
-room-first s m ys zs h = omega (arith, length-append ys zs)
-
--- ---- one byte more
-
-one_more : (old : List ℕ) (at : ℕ) (ys : List ℕ) (y : ℕ) → set (sets old at ys) (at + length ys) y ≡ sets old at (ys ++ (y ∷ []))
-one_more old at ys y = sym (sets-append old at ys (y ∷ []))
+pub room-first : (ys zs : List ℕ) (w : Writer) → Room (ys ++ zs) w → Room ys w
+room-first ys zs w h = omega (arith, length-append ys zs)
 
 -- ---- a number, its lowest byte first
 
-digits_last : (n v : ℕ) → digits 256 (suc n) v ≡ digits 256 n v ++ (v / 256 ^ n % 256 ∷ [])
-digits_last zero v = rw (div-pow-zero 256 v)
-digits_last (suc n) v =
-    ap (λ (ds : List ℕ). v % 256 ∷ ds)
-    (digits_last n (v / 256) ∙ ap (λ (d : ℕ). digits 256 n (v / 256) ++ (d % 256 ∷ [])) (div-first 256 v n))
+byte-at : (i n : ℕ) → byte_at i n ≡ n / 256 ^ i % 256
+byte-at zero n = rw (div-pow-zero 256 n)
+byte-at (suc i) n = refl
 
--- the i lowest bytes are written
-pub record Numbered (size value : ℕ) (at : ℕ) (old : List ℕ) (i rest : ℕ) (file : List ℕ) : Type 0 where
-  pub few : i ≤ size
-  pub left : rest ≡ value / 256 ^ i
-  pub written : file ≡ sets old at (digits 256 i value)
-  pub same : length file ≡ length old
+low_bytes : (i k n : ℕ) → bytes_low_first i k n ≡ digits 256 k (n / 256 ^ i)
+low_bytes i zero n = refl
+low_bytes i (suc k) n = rw (byte-at i n, low_bytes (suc i) k n, div-last 256 n i)
 
-module _ (size value at : ℕ) (old : List ℕ) where
-  pub number-none : Numbered size value at old 0 value old
-  number-none = record { few = omega arith; left = sym (div-pow-zero 256 value); written = refl; same = refl }
-
-  module _ {i rest : ℕ} {file : List ℕ} (m : Numbered size value at old i rest file) where
-    byte_more : set file (at + i) (rest % 256) ≡ sets old at (digits 256 (suc i) value)
-    byte_more =
-        rw (m.written, m.left, digits_last i value)
-        (ap (λ (k : ℕ). set (sets old at (digits 256 i value)) (at + k) (value / 256 ^ i % 256)) (sym (length_digits 256 i value))
-        ∙ one_more old at (digits 256 i value) (value / 256 ^ i % 256))
-
-    pub number_more : i < size → Numbered size value at old (i + 1) (rest / 256) (set file (at + i) (rest % 256))
-    number_more l =
-        rw (add-one i)
-        (record {
-          few = omega arith;
-          left = rw m.left (div-last 256 value i);
-          written = byte_more;
-          same = ap length byte_more ∙ length-sets old at (digits 256 (suc i) value);
-        })
-
-  pub number-all : {i rest : ℕ} {file : List ℕ} → Numbered size value at old i rest file → size ≤ i → PutFrom (le_bytes size value) at (at + size) old file
-  number-all {i} {rest} {file} m l =
-      let e : i ≡ size = omega (arith, m.few) in
-      record { after = rw (length_digits 256 size value); written = rw e at m.written }
-
--- the same number, known by another name
-module _ {at next : ℕ} {old new : List ℕ} where
-  pub number_is : (n v w : ℕ) → v ≡ w → PutFrom (le_bytes n v) at next old new → PutFrom (le_bytes n w) at next old new
-  number_is n v w e p = rw e at p
-
-  pub head-is : (version : ℕ) (h : Header) (n m : ℕ) → n ≡ m → PutFrom (head_bytes version h n) at next old new → PutFrom (head_bytes version h m) at next old new
-  head-is version h n m e p = rw e at p
-
--- ---- a copy
-
--- the first i bytes are written
-pub record Copied (bytes : List ℕ) (at : ℕ) (old : List ℕ) (i : ℕ) (file : List ℕ) : Type 0 where
-  pub few : i ≤ length bytes
-  pub written : file ≡ sets old at (take i bytes)
-  pub same : length file ≡ length old
-
-module _ (bytes : List ℕ) (at : ℕ) (old : List ℕ) where
-  pub copy-none : Copied bytes at old 0 old
-  copy-none = record { few = omega arith; written = refl; same = refl }
-
-  module _ {i : ℕ} {file : List ℕ} (m : Copied bytes at old i file) (l : i < length bytes) where
-    copied_more : set file (at + i) (get_or bytes i 0) ≡ sets old at (take (suc i) bytes)
-    copied_more =
-        rw (m.written, take-suc bytes i 0 l)
-        (ap (λ (k : ℕ). set (sets old at (take i bytes)) (at + k) (get_or bytes i 0)) (sym (length-take-le i bytes m.few))
-        ∙ one_more old at (take i bytes) (get_or bytes i 0))
-
-    pub copy_more : Copied bytes at old (i + 1) (set file (at + i) (get_or bytes i 0))
-    copy_more = rw (add-one i) (record { few = omega arith; written = copied_more; same = ap length copied_more ∙ length-sets old at (take (suc i) bytes) })
-
-  pub copy-all : {i : ℕ} {file : List ℕ} → Copied bytes at old i file → length bytes ≤ i → PutFrom bytes at (at + length bytes) old file
-  copy-all {i} {file} m l =
-      let e : i ≡ length bytes = omega (arith, m.few) in
-      record { after = refl; written = (rw e at m.written) ∙ ap (sets old at) (take-length bytes) }
+-- the first bytes of a word
+pub le-bytes : (size n : ℕ) → size ≤ 8 → take size (to_le_bytes w64 n) ≡ le_bytes size n
+le-bytes size n few =
+    let all : to_le_bytes w64 n ≡ digits 256 8 n = low_bytes 0 8 n ∙ ap (digits 256 8) (div-pow-zero 256 n) in
+    ap (take size) all ∙ take-digits 256 size 8 n ∙ ap (λ (k : ℕ). digits 256 k n) (omega arith)
 
 -- ---- the pieces of the slots, one after the other
 
@@ -138,34 +75,25 @@ order-grows f i (suc n) l =
     (λ (m : i < suc n). omega (arith, order-grows f i n (le_of_suc-le-suc m), ap length (order-more f n), length-append (in_order f n) (f n)))
     (eq-or-lt_of_le l)
 
--- the pieces of the first i of n slots are written
-pub record Run (f : ℕ → List ℕ) (n start : ℕ) (old : List ℕ) (i next : ℕ) (file : List ℕ) : Type 0 where
-  pub few : i ≤ n
-  pub put : PutFrom (in_order f i) start next old file
+pub order-none : (f : ℕ → List ℕ) (w : Writer) → Put (in_order f 0) w w
+unfolding joined
+order-none f w = put-none w
 
-module _ (f : ℕ → List ℕ) (n start : ℕ) (old : List ℕ) where
-  pub run_none : Run f n start old 0 start old
-  unfolding joined
-  run_none = record { few = omega arith; put = put-none start old }
+module _ (f : ℕ → List ℕ) {start mid : Writer} (i : ℕ) (p : Put (in_order f i) start mid) where
+  pub order-room : (n : ℕ) → Room (in_order f n) start → i < n → Room (f i) mid
+  order-room n h l = put-room p (f i) (omega (arith, ap length (order-more f i), order-grows f (suc i) n l))
 
-  module _ {i next : ℕ} {file : List ℕ} (m : Run f n start old i next file) where
-    pub run_room : start + length (in_order f n) ≤ length old → i < n → next + length (f i) ≤ length file
-    run_room h l = put-room m.put (f i) (omega (arith, ap length (order-more f i), order-grows f (suc i) n l))
-
-    pub run_more : {last : ℕ} {new : List ℕ} → i < n → PutFrom (f i) next last file new → Run f n start old (i + 1) last new
-    run_more {last} {new} l p = rw (add-one i) (record { few = omega arith; put = rw (order-more f i) (put-more m.put p) })
-
-    pub run-all : n ≤ i → PutFrom (in_order f n) start next old file
-    run-all l = let e : i ≡ n = omega (arith, m.few) in rw e at m.put
+  pub order-put : {new : Writer} → Put (f i) mid new → Put (in_order f (i + 1)) start new
+  order-put q = rw (add-one i, order-more f i) (put-more p q)
 
 -- ---- a piece that is written under a test
 
 module _ (b : Bool) (bytes : List ℕ) where
-  pub piece-room : (at m : ℕ) → b ≡ true → at + length (cond b bytes []) ≤ m → at + length bytes ≤ m
-  piece-room at m e h = rw e at h
+  pub piece-room : (w : Writer) → b ≡ true → Room (cond b bytes []) w → Room bytes w
+  piece-room w e h = rw e at h
 
-  pub piece-put : {at next : ℕ} {old new : List ℕ} → b ≡ true → PutFrom bytes at next old new → PutFrom (cond b bytes []) at next old new
+  pub piece-put : {old new : Writer} → b ≡ true → Put bytes old new → Put (cond b bytes []) old new
   piece-put e p = rw e p
 
-  pub piece-none : (at : ℕ) (old : List ℕ) → b ≡ false → PutFrom (cond b bytes []) at at old old
-  piece-none at old e = rw e (put-none at old)
+  pub piece-none : {w : Writer} → b ≡ false → Put (cond b bytes []) w w
+  piece-none {w} e = rw e (put-none w)

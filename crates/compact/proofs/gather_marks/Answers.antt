@@ -4,5 +4,4 @@ use Rattle.compact.proofs.gather_marks.Goals as goal
 
 pub returns-clause-held_after : goal.returns-clause-held_after
 returns-clause-held_after c =
-    let s = c in
-    c.restore_order.ensures ∙ in_place _ _ _ _ s.requires.n_in_bounds.1 s.requires.downward.0.many
+    c.restore_order.ensures ∙ in_place _ _ _ _ c.requires.n_in_bounds.1 c.requires.downward.0.many

@@ -1,11 +1,6 @@
 use Rattle.lloyd.specs.Quantizer.{decoded}
 use Rattle.vectors.proofs.Filling.{Filled}
-use Prim.Native.Nat.{◌-◌}
-use lib.ListN.{length}
 use Rattle.encode.proofs.decode.Given as goal
 
 abbrev pub invariant-loop-i : goal.invariant-loop-i
 invariant-loop-i l = Filled (decoded l.centroids l.codes) l.initial.out l.out l.i
-
-abbrev pub decreases-loop-i : goal.decreases-loop-i
-decreases-loop-i l = length l.codes - l.i

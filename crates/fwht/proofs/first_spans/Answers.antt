@@ -1,14 +1,10 @@
 use native.Mathlib.Omega.{arith}
-use lib.Ieee as Ieee
-use lib.Ieee.{binary32, nan}
 use Rattle.fwht.proofs.Spans.{spanned-start, spanned-blocks, spanned-more}
 use Rattle.fwht.proofs.first_spans.Goals as goal
 
--- `fwht::first_spans` meets its contract: three passes from eight places on, and none below.
-pub eights-requires : goal.eights-requires
-eights-requires c =
-    let s = c in
-    spanned-blocks _ _ _ _ _ _ (spanned-start nan (Ieee.add binary32) (Ieee.sub binary32) s.args.v.now s.requires) 2 (omega arith)
+-- three passes from eight places on
+pub over_blocks-requires : goal.over_blocks-requires
+over_blocks-requires c = spanned-blocks _ _ _ _ _ _ (spanned-start lib.Ieee.nan (lib.Ieee.add lib.Ieee.binary32) (lib.Ieee.sub lib.Ieee.binary32) _ c.requires) 2 (omega arith)
 
 pub returns-then-v-ge8 : goal.returns-then-v-ge8
-returns-then-v-ge8 c = spanned-more _ _ _ _ _ _ (spanned-start _ _ _ _ c.requires) 2 (omega arith) _ c.eights.ensures
+returns-then-v-ge8 c = spanned-more _ _ _ _ _ _ (spanned-start _ _ _ _ c.requires) 2 (omega arith) _ c.over_blocks.ensures

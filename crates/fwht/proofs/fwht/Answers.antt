@@ -1,7 +1,5 @@
 use mathlib.Core.Path.{sym, ◌∙◌}
-use Prim.Native.Nat.{◌-◌, ◌*◌}
 use native.Mathlib.Omega.{arith}
-use Rattle.fwht.specs.Binary32.{Spanned32}
 use Rattle.padding.proofs.Powers.{padded-pow, padded-fixed}
 use Rattle.fwht.proofs.Spans.{fwht-other, spanned-length, spanned-positive, spanned-blocks, spanned-more, spanned-end}
 use Rattle.fwht.proofs.fwht.Goals as goal
@@ -12,35 +10,23 @@ returns-then-padded_dim-n c = sym (fwht-other _ _ _ _ (λ k e. c.if-padded_dim-n
 pub first_spans-h-requires : goal.first_spans-h-requires
 first_spans-h-requires c = padded-fixed _ (omega arith) (sym c.padded_dim.ensures ∙ c.if-padded_dim-n.false)
 
-pub double_pass-requires : goal.double_pass-requires
-double_pass-requires c =
-    let so_far : Spanned32 c.args.v.now c.loop-h.v c.loop-h.h = c.loop-h.invariant _ c.first_spans-h.ensures in
-    spanned-blocks _ _ _ _ _ _ (so_far) 1 (omega arith)
-
-pub loop-h-smaller : goal.loop-h-smaller
-loop-h-smaller c =
-    let so_far : Spanned32 c.args.v.now c.loop-h.v c.loop-h.h = c.loop-h.invariant _ c.first_spans-h.ensures in
-    omega (arith, spanned-positive _ _ _ _ _ _ (so_far))
+pub over_blocks-requires : goal.over_blocks-requires
+over_blocks-requires c = spanned-blocks _ _ _ _ _ _ c.loop-h.invariant 1 (omega arith)
 
 pub loop-h-preserved : goal.loop-h-preserved
 loop-h-preserved c =
-    let so_far : Spanned32 c.args.v.now c.loop-h.v c.loop-h.h = c.loop-h.invariant _ c.first_spans-h.ensures in
-    let a = c in
-    λ u s. spanned-more _ _ _ _ _ _ (a.loop-h.invariant u s) 1 (omega (arith, spanned-length _ _ _ _ _ _ (a.loop-h.invariant u s), spanned-length _ _ _ _ _ _ (so_far))) _ c.double_pass.ensures
+    let s = c.loop-h.invariant in
+    spanned-more _ _ _ _ _ _ s 1 (omega (arith, spanned-length _ _ _ _ _ _ s)) _ c.over_blocks.ensures
 
-pub pass-requires : goal.pass-requires
-pass-requires c =
-    let so_far : Spanned32 c.args.v.now c.loop-h.v c.loop-h.h = c.loop-h.invariant _ c.first_spans-h.ensures in
-    spanned-blocks _ _ _ _ _ _ (so_far) 0 (omega arith)
+pub over_blocks-requires-then-h-n : goal.over_blocks-requires-then-h-n
+over_blocks-requires-then-h-n c = spanned-blocks _ _ _ _ _ _ c.loop-h.invariant 0 (omega arith)
 
 pub returns-then-h-n : goal.returns-then-h-n
 returns-then-h-n c =
-    let so_far : Spanned32 c.args.v.now c.loop-h.v c.loop-h.h = c.loop-h.invariant _ c.first_spans-h.ensures in
-    let last : let a = c in Spanned32 a.args.v.now c.pass.new.v (2 * a.loop-h.h) = spanned-more _ _ _ _ _ _ (so_far) 0 (omega arith) _ c.pass.ensures in
-    spanned-end _ _ _ _ _ _ (last) (omega (arith, spanned-positive _ _ _ _ _ _ (so_far)))
+    let s = c.loop-h.invariant in
+    spanned-end _ _ _ _ _ _ (spanned-more _ _ _ _ _ _ s 0 (omega arith) _ c.over_blocks-then-h-n.ensures) (omega (arith, spanned-positive _ _ _ _ _ _ s))
 
 pub returns-else-h-n : goal.returns-else-h-n
 returns-else-h-n c =
-    let so_far : Spanned32 c.args.v.now c.loop-h.v c.loop-h.h = c.loop-h.invariant _ c.first_spans-h.ensures in
-    let s = so_far in
+    let s = c.loop-h.invariant in
     spanned-end _ _ _ _ _ _ s (omega (arith, spanned-positive _ _ _ _ _ _ s))

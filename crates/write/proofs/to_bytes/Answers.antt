@@ -1,3 +1,4 @@
+use Rattle.std.proofs.Common.{rules}
 use Rattle.layout.proofs.Counting.{whole-block}
 use Rattle.write.proofs.Calls.{measured, unmeasured, write-misfit, write-short, write_done, file-room}
 use Rattle.write.proofs.to_bytes.Goals as goal
@@ -25,9 +26,9 @@ put_file-requires-clause-pieces_fit c =
 pub returns-clause-answers : goal.returns-clause-answers
 returns-clause-answers c =
     let m = measured _ _ _ c.in-Bytes.ensures in
-    (write_done _ _ _ m.0 _ _ _ _ c.version_of.ensures m.1 c.if-file-length.false c.put_file.ensures).0
+    (write_done _ _ _ m.0 _ _ _ c.version_of.ensures m.1 c.if-file-length.false (search rules)).0
 
 pub returns-clause-later_kept : goal.returns-clause-later_kept
 returns-clause-later_kept c =
     let m = measured _ _ _ c.in-Bytes.ensures in
-    (write_done _ _ _ m.0 _ _ _ _ c.version_of.ensures m.1 c.if-file-length.false c.put_file.ensures).1
+    (write_done _ _ _ m.0 _ _ _ c.version_of.ensures m.1 c.if-file-length.false (search rules)).1

@@ -1,6 +1,0 @@
-use native.Mathlib.Omega.{arith}
-use Rattle.encode.proofs.Fit.{fits-of}
-use Rattle.encode.proofs.encode_plain.Goals as goal
-
-pub slice_bounds-codes-end : goal.slice_bounds-codes-end
-slice_bounds-codes-end c = omega (arith, (fits-of _ _ _ _ c.requires).most)
