@@ -8,7 +8,6 @@ use Rattle.lists.specs.Lists.{tab}
 use Rattle.score.specs.declared.Scored.{Scored}
 use Rattle.index.specs.declared.Index.{Index}
 use Rattle.index.specs.Verdict.{Verdict, taken, turned_down}
-use Rattle.index.specs.Verdict.{Verdict, taken, turned_down}
 use Rattle.index.specs.declared.Added.{Added}
 use Rattle.index.specs.Arrays.{Arrays}
 use Rattle.index.specs.Step.{Answer, refused, done, flag, slot, maybe_slot, maybe_key, score_is, hits, key_hits, size, bytes}
@@ -23,7 +22,7 @@ abbrev pub made : Index → Verdict Index → Arrays → Result
 made x (taken y) a = result_of y a done
 made x (turned_down n) a = result_of x a (refused n)
 
-abbrev pub added : Index → Verdict Verdict Added → Arrays → Result
+abbrev pub added : Index → Verdict Added → Arrays → Result
 added x (taken y) a = result_of y.index a (slot y.slot)
 added x (turned_down n) a = result_of x a (refused n)
 

@@ -13,7 +13,6 @@ use Rattle.encode.specs.declared.Header.{Header}
 use Rattle.score.specs.declared.Scored.{Scored}
 use Rattle.index.specs.declared.Index.{Index}
 use Rattle.index.specs.Verdict.{Verdict, taken, turned_down}
-use Rattle.index.specs.Verdict.{Verdict, taken, turned_down}
 use Rattle.index.specs.declared.Added.{Added}
 use Rattle.index.specs.Arrays.{Arrays}
 use Rattle.index.specs.State.{record_of}
@@ -112,7 +111,7 @@ module _ (fs ws : List ℕ) (r : Record) (e : r ≡ record_beside 1 fs ws) where
           left n fs' ws' b ≡ left_by 1 op fs ws a
       by_both o g q l n fs' ws' p = ap (λ (z : PutBoth). left z.number z.fields z.answer b) p ∙ l ∙ by_call 1 fs ws r e x is op a o g
 
-      pub added-left : (d : Verdict Verdict Added) → added x d b ≡ call x a op → (n : ℕ) (fs' ws' : List ℕ) → put_both n fs' ws' ≡ put_added d fs ws → left n fs' ws' b ≡ left_by 1 op fs ws a
+      pub added-left : (d : Verdict Added) → added x d b ≡ call x a op → (n : ℕ) (fs' ws' : List ℕ) → put_both n fs' ws' ≡ put_added d fs ws → left n fs' ws' b ≡ left_by 1 op fs ws a
       added-left (taken y) g = by_both _ g _ (next-left y.index y.slot (slot y.slot) refl b)
       added-left (turned_down k) g = by_both _ g _ (refusal-left 1 fs ws r e x is k b)
 

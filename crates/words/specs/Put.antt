@@ -8,7 +8,6 @@ use Rattle.lists.specs.Lists.{over}
 use Rattle.lists.specs.Keep.{bit}
 use Rattle.index.specs.declared.Index.{Index}
 use Rattle.index.specs.Verdict.{Verdict, taken, turned_down}
-use Rattle.index.specs.Verdict.{Verdict, taken, turned_down}
 use Rattle.index.specs.declared.Added.{Added}
 use Rattle.index.specs.Step.{Answer, refused, done, flag, slot, maybe_slot, maybe_key, score_is, hits, key_hits, size, bytes}
 use Rattle.words.specs.Words.{record_words, words_of}
@@ -75,7 +74,7 @@ put_next x new fs ws =
     cond (ltb (length fs) record_words || ltb (length ws) (length new)) (put_both 13 fs ws) (put_both 0 (over (words_of x) fs) (over new ws))
 
 -- the slot
-abbrev pub put_added : Verdict Verdict Added → (fields answer : List ℕ) → PutBoth
+abbrev pub put_added : Verdict Added → (fields answer : List ℕ) → PutBoth
 put_added (taken y) fs ws = put_next y.index (y.slot ∷ []) fs ws
 put_added (turned_down n) fs ws = put_both n fs ws
 
