@@ -3,7 +3,8 @@
 
 ghost use Rattle.std.specs.Prelude.{◌≡◌, cond, [], ◌++◌, ◌+◌, ◌≤◌, eqb, length, get_or};
 ghost use Rattle.encode.specs.Header.{block_size};
-ghost use Rattle.index.specs.Arrays.{lent};
+ghost use Rattle.index.specs.Lent.{contents};
+ghost use Rattle.index.specs.Verdict.{verdict};
 ghost use Rattle.index.specs.State.{header_of};
 ghost use Rattle.index.specs.File.{le_bytes, width_byte, head_bytes};
 ghost use Rattle.index.specs.Step as Step;
@@ -13,7 +14,8 @@ ghost use Rattle.layout.specs.Counts.{entry_at};
 ghost use Rattle.write.specs.Put.{Room, Put};
 ghost use Rattle.write.specs.Pieces.{in_order, scale_piece, code_piece, key_piece, stage_pieces, second_pieces, file_pieces};
 
-use index::{Index, Written};
+use index::{Index, Lent};
+use refusal::Refusal;
 
 // A lent file, and the place from which the next bytes are written.
 #[derive(Drop)]
@@ -206,45 +208,27 @@ impl Writer<'_> {
 }
 
 // Writes the file of the index over the first places of the lent one. Refusal: 13, a file too short for it among its cases.
-pub fn to_bytes(
-    index: Index,
-    codes: &[u8],
-    scales: &[u32],
-    keys: &[u64],
-    keyed: &[bool],
-    held: &[u32],
-    alive: &[u8],
-    codes2: &[u8],
-    scales2: &[u32],
-    file: &mut [u8],
-) -> Written
-    ensures answers { result_of index (lent codes.now scales.now keys.now keyed.now held.now alive.now codes2.now scales2.now)
-        (wrote result file.new)
-        ≡ call index (lent codes.now scales.now keys.now keyed.now held.now alive.now codes2.now scales2.now)
-        (Step.write (length file.old)) }
-    ensures later_kept { LaterKept (byte_count result) file.old file.new }
+pub fn to_bytes(index: Index, arrays: &Lent<'_>, file: &mut [u8]) -> Result<usize, Refusal>
+    ensures answers { let a = contents arrays.now in
+        result_of index a (wrote (verdict result) file.new) ≡ call index a (Step.write (length file.old)) }
+    ensures later_kept { LaterKept (byte_count (verdict result)) file.old file.new }
 {
-    let measured = layout::file_length(
-        index, codes, scales, keys, keyed, held, alive, codes2, scales2,
-    );
-    let Written::Bytes(length) = measured else {
-        return measured;
-    };
+    let length = layout::file_length(index, arrays)?;
     if file.len() < length {
-        return Written::Refused(13);
+        return Err(Refusal::Misfit);
     }
     let mut out = Writer { file, at: 0 };
     out.put_file(
         form::version_of(index),
         index,
         room::block_size(index),
-        codes,
-        scales,
-        keys,
-        keyed,
-        alive,
-        codes2,
-        scales2,
+        arrays.codes,
+        arrays.scales,
+        arrays.keys,
+        arrays.keyed,
+        arrays.alive,
+        arrays.codes2,
+        arrays.scales2,
     );
-    Written::Bytes(length)
+    Ok(length)
 }
