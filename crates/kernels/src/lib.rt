@@ -161,6 +161,7 @@ fn raw_score(bits: u8, centroids: &[f32], codes: &[u8], query: &[f32]) -> f32
 }
 
 // The score of one stage. The scale is a pattern, since a float can't hold what a NaN's pattern says.
+#[tactic(auto, unfolding(score::specs::Score::stage_score))]
 pub fn stage_score(bits: u8, centroids: &[f32], query: &[f32], scale: u32, block: &[u8]) -> f32
     ensures { result ≡ stage_score bits centroids.now query.now (stage scale block.now) }
 {

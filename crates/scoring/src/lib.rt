@@ -10,16 +10,19 @@ ghost use Rattle.score.specs.Order.{order_number};
 use score::Scored;
 
 // The answer for a score: a NaN is refused.
+#[tactic(auto, unfolding(score::specs::Score::judged))]
 fn judged(score: f32) -> Scored
     ensures { result ≡ judged score }
 {
-    if score != score {
-        return Scored::Refused(12);
+    if score.is_nan() {
+        Scored::Refused(12)
+    } else {
+        Scored::Score(score)
     }
-    Scored::Score(score)
 }
 
 // The score of a slot that has one stage.
+#[tactic(auto, unfolding(score::specs::Score::slot_score))]
 pub fn score(bits: u8, centroids: &[f32], query: &[f32], scale: u32, block: &[u8]) -> Scored
     ensures { result ≡ judged (slot_score bits centroids.now query.now (stage scale block.now) none) }
 {
@@ -27,6 +30,7 @@ pub fn score(bits: u8, centroids: &[f32], query: &[f32], scale: u32, block: &[u8
 }
 
 // The score of a slot that has a residual stage too.
+#[tactic(auto, unfolding(score::specs::Score::slot_score))]
 pub fn score_residual(
     bits: u8,
     centroids: &[f32],
@@ -47,6 +51,7 @@ pub fn score_residual(
 }
 
 // The order number of a score. -0 goes with the scores that are not negative.
+#[tactic(auto, unfolding(score::specs::Order::order_of_bits, score::specs::Order::ranked_bits))]
 pub fn order_number(score: f32) -> u32
     ensures { result ≡ order_number score }
 {
