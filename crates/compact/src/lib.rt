@@ -3,16 +3,20 @@
 // Held order is written anew at the end, so until then its first places keep the numbers of the slots that stay: the call needs no list of its own.
 #![tactic(auto)]
 
-ghost use Rattle.std.specs.Prelude.{◌≡◌, false, cond, ◌/◌, ◌≤◌, length};
+ghost use Rattle.std.specs.Prelude.{◌≡◌, true, false, cond, ◌/◌, ◌≤◌, length};
 ghost use Rattle.lists.specs.Lists.{tab, over};
 ghost use Rattle.index.specs.Arrays.{lent};
+ghost use Rattle.index.specs.Lent.{contents_mut, SameLent};
+ghost use Rattle.index.specs.Fit.{fit};
+ghost use Rattle.index.specs.Verdict.{taken, verdict};
 ghost use Rattle.index.specs.Step as Step;
 ghost use Rattle.index.specs.Call.{call};
 ghost use Rattle.index.specs.Answers.{made};
 ghost use Rattle.held_order.specs.Restored.{rising_position};
 ghost use Rattle.compact.specs.Gathered.{live_slots, gathered, gathered_blocks, Downward, with_kept};
 
-use index::{Index, Made};
+use index::{Index, LentMut};
+use refusal::Refusal;
 
 // ---- which slots stay
 
@@ -102,8 +106,8 @@ fn with_kept(index: Index, kept: usize) -> Index
     }
 }
 
-// Gives the dead slots up. Refusal: 13.
-pub fn compact(
+// Gives the dead slots up of an index that fits. The arrays come one by one: some are read while others change.
+fn close_up(
     index: Index,
     codes: &mut [u8],
     scales: &mut [u32],
@@ -113,26 +117,42 @@ pub fn compact(
     alive: &mut [u8],
     codes2: &mut [u8],
     scales2: &mut [u32],
-) -> Made
-    ensures { made index result (lent codes.new scales.new keys.new keyed.new held.new alive.new codes2.new scales2.new)
+) -> Index
+    requires { fit index (lent codes.old scales.old keys.old keyed.old held.old alive.old codes2.old scales2.old) ≡ true }
+    ensures { made index (taken result) (lent codes.new scales.new keys.new keyed.new held.new alive.new codes2.new scales2.new)
         ≡ call index (lent codes.old scales.old keys.old keyed.old held.old alive.old codes2.old scales2.old)
         Step.compact }
 {
-    if fit::fits(
-        index, codes, scales, keys, keyed, held, alive, codes2, scales2,
-    ) {
-        let n = live_slots(alive, index.n, held);
-        let size = room::block_size(index);
-        gather_stage(codes, scales, size, held, n);
-        gather_stage(
-            codes2,
-            scales2,
-            size,
-            held,
-            second_stages(index.residual, n),
-        );
-        gather_marks(keys, keyed, held, alive, n);
-        return Made::Index(with_kept(index, n));
-    }
-    Made::Refused(13)
+    let n = live_slots(alive, index.n, held);
+    let size = room::block_size(index);
+    gather_stage(codes, scales, size, held, n);
+    gather_stage(
+        codes2,
+        scales2,
+        size,
+        held,
+        second_stages(index.residual, n),
+    );
+    gather_marks(keys, keyed, held, alive, n);
+    with_kept(index, n)
+}
+
+// Gives the dead slots up. Refusal: 13.
+pub fn compact(index: Index, arrays: &mut LentMut<'_>) -> Result<Index, Refusal>
+    ensures same { SameLent arrays.old arrays.new }
+    ensures answers { made index (verdict result) (contents_mut arrays.new)
+        ≡ call index (contents_mut arrays.old) Step.compact }
+{
+    fit::check(index, &arrays.view())?;
+    Ok(close_up(
+        index,
+        arrays.codes,
+        arrays.scales,
+        arrays.keys,
+        arrays.keyed,
+        arrays.held,
+        arrays.alive,
+        arrays.codes2,
+        arrays.scales2,
+    ))
 }
