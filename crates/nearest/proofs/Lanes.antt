@@ -38,9 +38,6 @@ pub record Gained (f : ℕ → ℕ) (from to sum i : ℕ) : Type 0 where
   pub within : i ≤ to
   pub so_far : total (tab f from) + sum ≡ total (tab f i)
 
-pub gained-none : (f : ℕ → ℕ) (from to : ℕ) → from ≤ to → Gained f from to 0 from
-gained-none f from to l = record { within = l; so_far = omega arith }
-
 module _ {f : ℕ → ℕ} {from to sum i : ℕ} (g : Gained f from to sum i) where
   -- with the sum up to j
   pub gained-part : (j r : ℕ) → j ≤ to → total (tab f i) + r ≡ total (tab f j) → Gained f from to (sum + r) j

@@ -14,7 +14,7 @@ use Rattle.score.proofs.Products.{low-code, high-code}
 use Rattle.index.specs.Codec.{apart}
 use Rattle.nearest.specs.Lanes.{lane_apart, lanes_apart, byte_apart, bytes_apart}
 use Rattle.nearest.specs.Pairs.{Low, Pairs, Split}
-use Rattle.nearest.proofs.Lanes.{total-next, total-more, Gained, gained-none, gained-more, gained-all, gained-most}
+use Rattle.nearest.proofs.Lanes.{total-next, total-more, Gained, gained-more, gained-all, gained-most}
 
 apart_low : (a b : ℕ) → a ≤ 3 → b ≤ 3 → apart a b ≤ 3
 apart_low a b k l = omega arith
@@ -49,9 +49,6 @@ module _ {even odd : List ℕ} {n : ℕ} (p : Pairs even odd n) where
 pub record Few (even odd block : List ℕ) (from to sum i : ℕ) : Type 0 where
   pub gained : Gained (byte_apart even odd block) from to sum i
   pub later : from ≤ i
-
-pub few-none : (even odd block : List ℕ) (from n : ℕ) → Few even odd block from (from + n) 0 from
-few-none even odd block from n = record { gained = gained-none (byte_apart even odd block) from (from + n) (omega arith); later = omega arith }
 
 module _ {even odd block : List ℕ} {from to sum i : ℕ} (m : Few even odd block from to sum i) where
   pub few-all : to ≤ i → bytes_apart even odd block from + sum ≡ bytes_apart even odd block to

@@ -1,5 +1,4 @@
 // The cascade's distances of the slots in use from a query (document 01, store.rs, cascade). Dead slots get a number above every distance.
-// What is written is written by index: a write through `iter_mut` says nothing of the entries.
 ghost use Rattle.std.specs.Prelude.{◌≡◌, true, ◌+◌, ◌*◌, ◌/◌, ◌≤◌, length, get_or};
 ghost use Rattle.std.specs.Float.{nan};
 ghost use Rattle.lists.specs.Lists.{tab, over};
