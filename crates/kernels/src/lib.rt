@@ -58,7 +58,7 @@ impl<'a> Block<'a> {
         self.query[c] * self.centroids[low] + self.query[c + 1] * self.centroids[high]
     }
 
-    // Eight running sums with eight bytes more, lane j taking byte i + j.
+    // Eight running sums with eight bytes more, lane j taking byte i + j. Lane by lane is the form that the paper names.
     fn byte_step(&self, acc: [f32; 8], i: usize) -> [f32; 8]
         requires width { self.now.bits ≡ 4 }
         requires inside { i + 8 ≤ length self.now.query.now / 2 }

@@ -7,16 +7,16 @@ use Prim.Native.Nat.{ℕ, zero, suc, ◌+◌, ◌-◌, ◌≤◌, ◌<◌, min}
 use native.Mathlib.Nat.{eq-or-lt_of_le}
 use native.Mathlib.Numerals.{add-one}
 use native.Mathlib.Omega.{arith}
-use native.Mathlib.Decide.{dec_lt}
+use native.Mathlib.Decide.{dec_lt, ℕ_discrete}
 use lib.Dec.{ltb, eqb}
-use lib.ListN.{length, get_or, set}
+use lib.ListN.{length, get_or, set, replicate, length-set}
+use lib.Seq.{get_or-set_same, get_or-set_other}
 use mir.Val.{bool_byte}
 use borrow.Author.Tests.{lt-ltb, le-ltb, eq-eqb, ne_eqb, ltb-true, ltb-false}
-use Rattle.lists.specs.Lists.{tab, below}
+use Rattle.lists.specs.Lists.{below}
 use Rattle.lists.specs.Keep.{bit, count}
 use Rattle.lists.proofs.Bits.{as-bit}
-use Rattle.lists.proofs.Laws.{length-tab, get_or-tab, tab-ext}
-use Rattle.lists.proofs.Entries.{set-tab}
+use Rattle.lists.proofs.Laws.{length-tab}
 use Rattle.lists.proofs.Front.{each-tab}
 use Rattle.lists.proofs.Keep.{count-append, count-length, count-implied, count_same, count-share}
 use Rattle.lists.proofs.Writing.{Written, written-more}
@@ -113,35 +113,33 @@ module _ (xs : List ℕ) where
 
 -- ---- a loop that counts each distance
 
-pub record Tallied (xs old counts : List ℕ) (i : ℕ) : Type 0 where
+pub record Tallied (xs counts : List ℕ) (size i : ℕ) : Type 0 where
   pub within : i ≤ length xs
-  pub are : counts ≡ tab (λ d. level xs d i) (length old)
+  pub long : length counts ≡ size
+  pub are : (d : ℕ) → d < size → get_or counts d 0 ≡ level xs d i
 
-pub tallied-none : (xs old : List ℕ) → old ≡ tab (λ _. 0) (length old) → Tallied xs old old 0
-tallied-none xs old e = record { within = omega arith; are = e ∙ tab-ext (λ _. 0) (λ d. level xs d 0) (length old) (λ d l. sym (level-none xs d)) }
+pub tallied-none : (xs counts : List ℕ) → ((d : ℕ) → get_or counts d 0 ≡ 0) → Tallied xs counts (length counts) 0
+tallied-none xs counts z = record { within = omega arith; long = refl; are = λ d l. z d ∙ sym (level-none xs d) }
 
-module _ {xs old counts : List ℕ} {i : ℕ} (t : Tallied xs old counts i) where
-  pub tallied-length : length counts ≡ length old
-  tallied-length = ap length t.are ∙ length-tab (λ d. level xs d i) (length old)
-
-  pub tallied-at : (d : ℕ) → d < length old → get_or counts d 0 ≡ level xs d i
-  tallied-at d l = ap (λ (cs : List ℕ). get_or cs d 0) t.are ∙ get_or-tab (λ d. level xs d i) (length old) d 0 l
-
-  pub tallied-more : i < length xs → get_or xs i 0 < length old → Tallied xs old (set counts (get_or xs i 0) (get_or counts (get_or xs i 0) 0 + 1)) (i + 1)
+module _ {xs counts : List ℕ} {size i : ℕ} (t : Tallied xs counts size i) where
+  pub tallied-more : i < length xs → get_or xs i 0 < size → Tallied xs (set counts (get_or xs i 0) (get_or counts (get_or xs i 0) 0 + 1)) size (i + 1)
   tallied-more l k =
       let x = get_or xs i 0 in
+      let new = get_or counts x 0 + 1 in
       record {
         within = omega arith;
-        are =
-            rw (tallied-at x k, t.are)
-            (set-tab (λ d. level xs d i) (λ d. level xs d (i + 1)) (length old) x (level xs x i + 1) k (level-here xs i)
-            (λ d o. omega (arith, level-up xs d i, ap bit (ne_eqb x d (λ e. o (sym e))))));
+        long = length-set counts x new ∙ t.long;
+        are = λ d m. elim (ℕ_discrete d x) [
+          | yes e ↦ rw e (get_or-set_same counts x new 0 (omega (arith, t.long)) ∙ omega (arith, t.are x k, level-here xs i))
+          | no o ↦ get_or-set_other counts x d new 0 o ∙ omega (arith, t.are d m, level-up xs d i, ap bit (ne_eqb x d (λ e. o (sym e))))
+        ];
       }
 
--- what stands for a distance once all are counted
-pub counted-at : (xs old counts : List ℕ) → length old ≡ suc past → counts ≡ tab (λ d. level xs d (length xs)) (length old) → (d : ℕ) → d < past →
-    get_or counts d 0 ≡ level xs d (length xs)
-counted-at xs old counts n e d l = ap (λ (cs : List ℕ). get_or cs d 0) e ∙ get_or-tab (λ d. level xs d (length xs)) (length old) d 0 (omega arith)
+-- an array of zeros
+pub all-zero : (n i : ℕ) → get_or (replicate {A = ℕ} n 0) i 0 ≡ 0
+all-zero zero i = refl
+all-zero (suc n) zero = refl
+all-zero (suc n) (suc i) = all-zero n i
 
 -- ---- a loop that marks
 

@@ -3,7 +3,7 @@ use mathlib.Core.Path.{◌≡◌, refl, sym, ap, ◌∙◌}
 use mathlib.Core.Bool.{true, cond}
 use mathlib.Core.List.{List, [], map}
 use mathlib.Core.Option.{none}
-use Prim.Native.Nat.{ℕ, ◌-◌, ◌/◌, ◌≤◌, ◌<◌}
+use Prim.Native.Nat.{ℕ, ◌/◌, ◌≤◌, ◌<◌}
 use native.Mathlib.Omega.{arith}
 use lib.ListN.{length, take, get_or}
 use lib.Ieee.{Float, nan}
@@ -96,7 +96,7 @@ unfolding levels_of by_width
 few-boundaries w e = rw e (omega (arith, boundaries-length 4))
 
 -- the boundaries of width 4 in the first places of an array, lent
-pub own-table : {places : List Float} → places ≡ in_places (boundaries_of 4) → take (15 - 0) places ≡ boundaries_of 4
+pub own-table : {places : List Float} → places ≡ in_places (boundaries_of 4) → take 15 places ≡ boundaries_of 4
 unfolding levels_of by_width
 own-table {places} e = lent (boundaries_of 4) places 15 e (boundaries-count 4 16 refl)
 

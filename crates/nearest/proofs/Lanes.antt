@@ -1,19 +1,19 @@
 -- Sums over lanes and over bytes, as loops make them, and how large they can be.
 use mathlib.Core.Path.{◌≡◌, ap, ◌∙◌}
 use mathlib.Core.List.{List, [], ◌∷◌, ◌++◌}
-use Prim.Native.Nat.{ℕ, zero, suc, ◌+◌, ◌-◌, ◌*◌, ◌/◌, ◌≤◌, ◌<◌}
+use Prim.Native.Nat.{ℕ, zero, suc, ◌+◌, ◌*◌, ◌/◌, ◌≤◌, ◌<◌}
 use native.Mathlib.Nat.{add-zero, add-suc, zero-add, mul-suc}
 use native.Mathlib.Numerals.{add-one}
 use native.Mathlib.Omega.{arith}
 use lib.ListN.{get_or}
 use Rattle.lists.specs.Lists.{tab, total}
-use Rattle.digits.specs.Digits.{Below}
 use Rattle.codes.specs.Packing.{code_at}
 use Rattle.codes.specs.Writing.{at_width}
 use Rattle.codes.proofs.Packing.{code_at-lt}
 use Rattle.codes.proofs.Tests.{at_width_lem}
 use Rattle.index.specs.Codec.{apart}
 use Rattle.nearest.specs.Lanes.{lane_apart, lanes_apart}
+use Rattle.nearest.specs.Pairs.{Low}
 
 total-append : (xs ys : List ℕ) → total (xs ++ ys) ≡ total xs + total ys
 total-append [] ys = omega arith
@@ -38,9 +38,6 @@ pub record Gained (f : ℕ → ℕ) (from to sum i : ℕ) : Type 0 where
   pub within : i ≤ to
   pub so_far : total (tab f from) + sum ≡ total (tab f i)
 
-pub gained-none : (f : ℕ → ℕ) (from to : ℕ) → from ≤ to → Gained f from to 0 from
-gained-none f from to l = record { within = l; so_far = omega arith }
-
 module _ {f : ℕ → ℕ} {from to sum i : ℕ} (g : Gained f from to sum i) where
   -- with the sum up to j
   pub gained-part : (j r : ℕ) → j ≤ to → total (tab f i) + r ≡ total (tab f j) → Gained f from to (sum + r) j
@@ -55,9 +52,9 @@ module _ {f : ℕ → ℕ} {from to sum i : ℕ} (g : Gained f from to sum i) wh
   pub gained-most : (k : ℕ) → ((j : ℕ) → j < i → f j ≤ k) → sum ≤ k * i
   gained-most k h = omega (arith, g.so_far, total-most f k i h)
 
--- with the sum of the rest, from the first on
-pub gained-rest : {f : ℕ → ℕ} {to sum i : ℕ} → Gained f 0 to sum i → (r : ℕ) → total (tab f i) + r ≡ total (tab f (i + (to - i))) → sum + r ≡ total (tab f to)
-gained-rest {f} {to} {sum} {i} g r e = let at : i + (to - i) ≡ to = omega (arith, g.within) in omega (arith, g.so_far, rw at at e)
+-- with the sum of the k more that are left, from the first on
+pub gained-rest : {f : ℕ → ℕ} {to sum i : ℕ} → Gained f 0 to sum i → (j k r : ℕ) → i ≡ j → j + k ≡ to → total (tab f j) + r ≡ total (tab f (j + k)) → sum + r ≡ total (tab f to)
+gained-rest {f} {to} {sum} {i} g j k r e h rest = omega (arith, g.so_far, ap (λ (m : ℕ). total (tab f m)) e, rest, ap (λ (m : ℕ). total (tab f m)) h)
 
 -- ---- one lane
 
@@ -72,11 +69,11 @@ module _ (tops block : List ℕ) (i : ℕ) where
   lane-read code r is e =
       e ∙ ap (λ (c : ℕ). apart (get_or tops i 0) (c / 4)) (is ∙ at_width_lem (code_at 4 block i) (record { some = omega arith; most = omega arith }))
 
-  pub lane_low : get_or tops i 0 < 256 → lane_apart tops block i ≤ 255
+  pub lane_low : get_or tops i 0 ≤ 3 → lane_apart tops block i ≤ 3
   unfolding lane_apart
   lane_low l = omega (arith, top-low block i)
 
 -- all lanes
-pub lanes-most : (tops block : List ℕ) (n : ℕ) → Below 256 tops → lanes_apart tops block n ≤ 255 * n
+pub lanes-most : (tops block : List ℕ) (n : ℕ) → Low tops n → lanes_apart tops block n ≤ 3 * n
 unfolding lanes_apart
-lanes-most tops block n bytes = total-most (lane_apart tops block) 255 n (λ i l. lane_low tops block i (bytes i))
+lanes-most tops block n low = total-most (lane_apart tops block) 3 n (λ i l. lane_low tops block i (low i l))

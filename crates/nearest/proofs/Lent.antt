@@ -1,16 +1,16 @@
--- What the test before the call shows, the distances that are lent to the search for the limit, `&distances[0..n]`, and the marks that follow.
-use mathlib.Core.Path.{◌≡◌, ap, ◌∙◌}
+-- What the test before the call shows, the distances that are lent to the search for the limit, `&places[..n]`, and the marks that follow.
+use mathlib.Core.Path.{◌≡◌, sym, ap, ◌∙◌}
 use mathlib.Core.Bool.{Bool, true, false, cond, ◌&&◌}
 use mathlib.Core.List.{List}
-use Prim.Native.Nat.{ℕ, ◌-◌, ◌≤◌, ◌<◌}
+use Prim.Native.Nat.{ℕ, ◌≤◌, ◌<◌}
 use native.Mathlib.Omega.{arith}
 use lib.Dec.{leb, eqb}
-use lib.ListN.{length, take, get_or}
+use lib.ListN.{length, take, get_or, replicate, length-replicate}
 use borrow.Author.Tests.{leb-true, eqb-true}
 use Rattle.lists.specs.Lists.{tab, over}
 use Rattle.lists.specs.Keep.{bit, Each}
 use Rattle.lists.proofs.Laws.{length-tab, get_or-tab, length_over}
-use Rattle.lists.proofs.Front.{part-tab, each-tab}
+use Rattle.lists.proofs.Front.{take-over, each-tab}
 use Rattle.lists.proofs.Tests.{both}
 use Rattle.padding.specs.Rotatable.{rotatable}
 use Rattle.unit.proofs.Rotatable.{rotatable-of}
@@ -43,11 +43,12 @@ ready slots marks width working entries t =
 -- what is lent of `next`
 pub record Lent (x : Index) (codes alive : List ℕ) (q : Query) (places : ℕ) (next : List ℕ) : Type 0 where
   pub fits : x.n ≤ length next
-  pub few : length (take (x.n - 0) next) ≤ 65536
-  pub room : length (take (x.n - 0) next) ≤ places
-  pub low : Each (λ d. d < 12290) (take (x.n - 0) next)
-  pub marks : (r : ℕ) (limit : Limit) → Limits (take (x.n - 0) next) r limit →
-      tab (λ i. bit (is_marked (take (x.n - 0) next) limit.distance limit.ties i)) (length (take (x.n - 0) next)) ≡
+  pub long : length (take x.n next) ≡ x.n
+  pub few : length (take x.n next) ≤ 65536
+  pub room : length (take x.n next) ≤ places
+  pub low : Each (λ d. d < 12290) (take x.n next)
+  pub marks : (r : ℕ) (limit : Limit) → Limits (take x.n next) r limit →
+      tab (λ i. bit (is_marked (take x.n next) limit.distance limit.ties i)) (length (take x.n next)) ≡
       near_marks (distance_at (header_of x) codes q) alive x.n r
 
 module _ (x : Index) (codes alive : List ℕ) (q : Query) (places : ℕ) (t : cascadable x.n places x.bits x.working_dim (length q.vector) ≡ true)
@@ -63,16 +64,16 @@ module _ (x : Index) (codes alive : List ℕ) (q : Query) (places : ℕ) (t : ca
       let short : length distances ≤ length old = omega (arith, length-tab (live_distance (header_of x) codes alive q) x.n, size, test.few) in
       omega (arith, ap length e, length_over distances old short, size, test.few)
 
-  lent-are : take (x.n - 0) next ≡ distances
-  lent-are = ap (take (x.n - 0)) e ∙ part-tab (live_distance (header_of x) codes alive q) x.n old
+  lent-are : take x.n next ≡ distances
+  lent-are = ap (take x.n) e ∙ take-over distances old x.n (sym (length-tab (live_distance (header_of x) codes alive q) x.n))
 
-  length-lent : length (take (x.n - 0) next) ≡ x.n
+  length-lent : length (take x.n next) ≡ x.n
   length-lent = ap length lent-are ∙ length-tab (live_distance (header_of x) codes alive q) x.n
 
   low : (i : ℕ) → distance_at (header_of x) codes q i < past
   low i = distance-below (header_of x) codes q i (rotatable-of x.working_dim (length q.vector) 4096 test.query).room test.four
 
-  lent-low : Each (λ d. d < 12290) (take (x.n - 0) next)
+  lent-low : Each (λ d. d < 12290) (take x.n next)
   unfolding live_distance
   lent-low = rw lent-are (each-tab (λ d. d < 12290) (live_distance (header_of x) codes alive q) x.n (λ i l. go i (live_at alive i)))
     where
@@ -80,15 +81,21 @@ module _ (x : Index) (codes alive : List ℕ) (q : Query) (places : ℕ) (t : ca
       go i true = omega (arith, low i)
       go i false = omega arith
 
-  pub lent : Lent x codes alive q places next
+  lent : Lent x codes alive q places next
   unfolding live_distance
   lent =
       record {
         fits = lent_fits;
+        long = length-lent;
         few = omega (arith, length-lent, test.few);
         room = omega (arith, length-lent, test.room);
         low = lent-low;
         marks =
-            marks-near (distance_at (header_of x) codes q) alive x.n low (take (x.n - 0) next)
+            marks-near (distance_at (header_of x) codes q) alive x.n low (take x.n next)
             (λ i l. ap (λ (ds : List ℕ). get_or ds i 0) lent-are ∙ get_or-tab (live_distance (header_of x) codes alive q) x.n i 0 l) length-lent;
       }
+
+-- by the test's answer, of places that held 0
+pub lent-by : (x : Index) (codes alive : List ℕ) (q : Query) {places : ℕ} {b : Bool} → b ≡ cascadable x.n places x.bits x.working_dim (length q.vector) →
+    b ≡ true → {next : List ℕ} → next ≡ over (tab (live_distance (header_of x) codes alive q) x.n) (replicate 65536 0) → Lent x codes alive q places next
+lent-by x codes alive q e t written = lent x codes alive q _ (sym e ∙ t) (replicate 65536 0) _ (length-replicate {A = ℕ} 65536 0) written

@@ -1,12 +1,12 @@
 -- Two lanes at a time: the sum over the bytes of a block is the sum over their lanes.
 use mathlib.Core.Path.{◌≡◌, refl, ap, ◌∙◌}
 use mathlib.Core.List.{List}
-use Prim.Native.Nat.{ℕ, zero, suc, ◌+◌, ◌*◌, ◌/◌, ◌%◌, ◌≤◌, ◌<◌}
+use Prim.Native.Nat.{ℕ, zero, suc, ◌+◌, ◌-◌, ◌*◌, ◌/◌, ◌%◌, ◌≤◌, ◌<◌}
 use native.Mathlib.Nat.{add-zero}
 use native.Mathlib.Numerals.{add-one}
 use native.Mathlib.Omega.{arith}
 use lib.ListN.{length, get_or}
-use Rattle.lists.specs.Lists.{tab, over}
+use Rattle.lists.specs.Lists.{tab, over, total}
 use Rattle.lists.proofs.Laws.{length-tab, get_or-tab}
 use Rattle.lists.proofs.Front.{get_d_front}
 use Rattle.digits.specs.Digits.{Below}
@@ -14,7 +14,7 @@ use Rattle.score.proofs.Products.{low-code, high-code}
 use Rattle.index.specs.Codec.{apart}
 use Rattle.nearest.specs.Lanes.{lane_apart, lanes_apart, byte_apart, bytes_apart}
 use Rattle.nearest.specs.Pairs.{Low, Pairs, Split}
-use Rattle.nearest.proofs.Lanes.{total-next, total-more, Gained, gained-none, gained-more, gained-all, gained-most}
+use Rattle.nearest.proofs.Lanes.{total-next, total-more, Gained, gained-more, gained-all, gained-most}
 
 apart_low : (a b : ℕ) → a ≤ 3 → b ≤ 3 → apart a b ≤ 3
 apart_low a b k l = omega arith
@@ -44,33 +44,33 @@ module _ {even odd : List ℕ} {n : ℕ} (p : Pairs even odd n) where
   pub bytes_most : (block : List ℕ) → Below 256 block → {sum i : ℕ} → Gained (byte_apart even odd block) 0 n sum i → sum ≤ 6 * i
   bytes_most block bytes g = gained-most g 6 (λ j l. byte_low block bytes j (omega (arith, g.within)))
 
--- ---- a loop over n bytes from `from` on
+-- ---- a loop over bytes from `from` on
 
-pub record Few (even odd block : List ℕ) (from n sum i : ℕ) : Type 0 where
-  pub gained : Gained (byte_apart even odd block) from (from + n) sum (from + i)
+pub record Few (even odd block : List ℕ) (from to sum i : ℕ) : Type 0 where
+  pub gained : Gained (byte_apart even odd block) from to sum i
+  pub later : from ≤ i
 
-pub few-none : (even odd block : List ℕ) (from n : ℕ) → Few even odd block from n 0 0
-few-none even odd block from n = record { gained = rw (add-zero from) (gained-none (byte_apart even odd block) from (from + n) (omega arith)) }
-
-module _ {even odd block : List ℕ} {from n sum i : ℕ} (m : Few even odd block from n sum i) where
-  pub few-all : n ≤ i → bytes_apart even odd block from + sum ≡ bytes_apart even odd block (from + n)
+module _ {even odd block : List ℕ} {from to sum i : ℕ} (m : Few even odd block from to sum i) where
+  pub few-all : to ≤ i → bytes_apart even odd block from + sum ≡ bytes_apart even odd block to
   unfolding bytes_apart
-  few-all l = gained-all m.gained (omega arith)
+  few-all l = gained-all m.gained l
 
-  module _ (p : Pairs even odd (from + n)) (bytes : Below 256 block) (l : i < n) (x y : ℕ)
-      (low : x ≡ apart (get_or even (from + i) 0) (get_or block (from + i) 0 % 16 / 4)) (high : y ≡ apart (get_or odd (from + i) 0) (get_or block (from + i) 0 / 64)) where
-    byte-is : x + y ≡ byte_apart even odd block (from + i)
+  module _ (p : Pairs even odd to) (bytes : Below 256 block) (l : i < to) (x y : ℕ)
+      (low : x ≡ apart (get_or even i 0) (get_or block i 0 % 16 / 4)) (high : y ≡ apart (get_or odd i 0) (get_or block i 0 / 64)) where
+    byte-is : x + y ≡ byte_apart even odd block i
     unfolding byte_apart
     byte-is = omega arith
 
-    pub few-low : sum + (x + y) ≤ 6 * (i + 1)
+    pub few-low : sum + (x + y) ≤ 6 * (i + 1 - from)
     few-low =
         let f = byte_apart even odd block in
-        let each : (j : ℕ) → j < from + n → f j ≤ 6 = byte_low p block bytes in
-        omega (arith, m.gained.so_far, byte-is, each (from + i) (omega arith), total-more f 6 from i (λ j k. each j (omega arith)))
+        let each : (j : ℕ) → j < to → f j ≤ 6 = byte_low p block bytes in
+        let at : from + (i - from) ≡ i = omega (arith, m.later) in
+        let so_far : total (tab f i) ≤ total (tab f from) + 6 * (i - from) = rw at at (total-more f 6 from (i - from) (λ j k. each j (omega (arith, m.later, l, k)))) in
+        omega (arith, m.gained.so_far, byte-is, each i l, so_far, m.later)
 
-    pub few-more : Few even odd block from n (sum + (x + y)) (i + 1)
-    few-more = let e : from + (i + 1) ≡ from + i + 1 = omega arith in record { gained = rw e (gained-more m.gained (omega arith) (x + y) byte-is) }
+    pub few-more : Few even odd block from to (sum + (x + y)) (i + 1)
+    few-more = record { gained = gained-more m.gained l (x + y) byte-is; later = omega (arith, m.later) }
 
 -- ---- a byte has two lanes
 

@@ -6,7 +6,7 @@
 
 mod distances;
 
-ghost use Rattle.std.specs.Prelude.{◌≡◌, cond, ◌&&◌, ◌||◌, ◌≤◌, ◌<◌, ltb, eqb, length};
+ghost use Rattle.std.specs.Prelude.{◌≡◌, ℕ, cond, ◌&&◌, ◌||◌, ◌≤◌, ◌<◌, ltb, eqb, length, get_or};
 ghost use Rattle.lists.specs.Lists.{tab, over};
 ghost use Rattle.lists.specs.Keep.{bit, Each};
 ghost use Rattle.index.specs.State.{header_of};
@@ -20,61 +20,40 @@ use index::Index;
 // ---- the limit
 
 // All slots below the distance are candidates, and the first `ties` at it.
-#[derive(Drop)]
+#[derive(Clone, Copy)]
 struct Limit {
     distance: u32,
     ties: usize,
 }
 
-// A count for each distance up to 12,289, that of dead slots. The contents don't matter.
-fn counters() -> [u32; 12290] {
-    [0; 12290]
-}
-
-fn clear(counts: &mut [u32])
-    ensures { counts.new ≡ tab (λ _. 0) (length counts.old) }
-{
-    let mut i = 0;
-    while i < counts.len() {
-        counts[i] = 0;
-        i += 1;
-    }
-}
-
 // Counts how many slots have each distance, from counts of 0 on.
 fn tally(distances: &[u32], counts: &mut [u32])
-    requires { (length distances.now ≤ 65536) × (Each (λ d. d < length counts.old) distances.now)
-        × (counts.old ≡ tab (λ _. 0) (length counts.old)) }
-    ensures { counts.new ≡ tab (λ d. level distances.now d (length distances.now)) (length counts.old) }
+    requires few { length distances.now ≤ 65536 }
+    requires low { Each (λ d. d < length counts.old) distances.now }
+    requires zero { (d : ℕ) → get_or counts.old d 0 ≡ 0 }
+    ensures { (d : ℕ) → d < length counts.old → get_or counts.new d 0 ≡ level distances.now d (length distances.now) }
 {
-    let mut i = 0;
-    while i < distances.len() {
-        let d = distances[i] as usize;
-        counts[d] = counts[d] + 1;
-        i += 1;
+    for d in distances {
+        counts[*d as usize] += 1;
     }
 }
 
-// The limit of the r nearest slots.
+// The limit of the r nearest slots. There is a count for each distance up to 12,289, that of dead slots.
 fn find_limit(distances: &[u32], r: usize) -> Limit
-    requires { (length distances.now ≤ 65536) × (Each (λ d. d < 12290) distances.now) }
+    requires few { length distances.now ≤ 65536 }
+    requires low { Each (λ d. d < 12290) distances.now }
     ensures { Limits distances.now r result }
 {
-    let mut counts = counters();
-    clear(&mut counts);
+    let mut counts = [0u32; 12290];
     tally(distances, &mut counts);
-    let mut nearer: usize = 0;
-    let mut d: usize = 0;
-    while d < 12289 {
-        let reached = nearer + counts[d] as usize;
+    let mut nearer = 0;
+    for distance in 0..12289u32 {
+        let reached = nearer + counts[distance as usize] as usize;
         if r <= reached {
-            return Limit {
-                distance: d as u32,
-                ties: r - nearer,
-            };
+            let ties = r - nearer;
+            return Limit { distance, ties };
         }
         nearer = reached;
-        d += 1;
     }
     Limit {
         distance: 12289,
@@ -84,53 +63,37 @@ fn find_limit(distances: &[u32], r: usize) -> Limit
 
 // ---- the marks
 
-// Whether a slot is a candidate, `seen` slots at the limit being before it.
-fn is_marked(distance: u32, limit: u32, ties: usize, seen: usize) -> bool
-    ensures { result ≡ (ltb distance limit || (eqb distance limit && ltb seen ties)) }
-{
-    if distance < limit {
-        return true;
+impl Limit {
+    // Whether a slot is a candidate, `seen` slots at the limit being before it.
+    fn is_marked(self, distance: u32, seen: usize) -> bool
+        ensures { result ≡ (ltb distance self.distance || (eqb distance self.distance && ltb seen self.ties)) }
+    {
+        distance < self.distance || distance == self.distance && seen < self.ties
     }
-    if distance == limit {
-        return seen < ties;
-    }
-    false
-}
 
-fn mark(distances: &[u32], limit: u32, ties: usize, marks: &mut [u8])
-    requires { length distances.now ≤ length marks.old }
-    ensures { marks.new ≡ over (tab (λ i. bit (is_marked distances.now limit ties i)) (length distances.now)) marks.old }
-{
-    let mut seen: usize = 0;
-    let mut i = 0;
-    while i < distances.len() {
-        let d = distances[i];
-        marks[i] = is_marked(d, limit, ties, seen) as u8;
-        seen += (d == limit) as usize;
-        i += 1;
+    fn mark(self, distances: &[u32], marks: &mut [u8])
+        requires { length distances.now ≤ length marks.old }
+        ensures { marks.new ≡ over (tab (λ i. bit (is_marked distances.now self.distance self.ties i)) (length distances.now)) marks.old }
+    {
+        let mut seen: usize = 0;
+        for slot in 0..distances.len() {
+            let distance = distances[slot];
+            marks[slot] = self.is_marked(distance, seen) as u8;
+            seen += (distance == self.distance) as usize;
+        }
     }
 }
 
 // ---- the call
 
-// Places for the distances of 65,536 slots.
-fn places() -> [u32; 65536] {
-    [0; 65536]
-}
-
+#[tactic(auto, unfolding(crate::specs::Nearest::cascadable))]
 fn is_ready(slots: usize, marks: usize, width: u8, working_dim: usize, entries: usize) -> bool
     ensures { result ≡ cascadable slots marks width working_dim entries }
 {
-    if marks < slots {
-        return false;
-    }
-    if 65536 < slots {
-        return false;
-    }
-    if width != 4 {
-        return false;
-    }
-    padding::is_rotatable(working_dim, entries, 4096)
+    slots <= marks
+        && slots <= 65536
+        && width == 4
+        && padding::is_rotatable(working_dim, entries, 4096)
 }
 
 // Marks the r nearest live slots: 1 for each, 0 for the others in use. Nothing is written where the record is out of range, the query can't be
@@ -155,10 +118,9 @@ pub fn mark_nearest(
         index.working_dim,
         query.len(),
     ) {
-        let n = index.n;
-        let mut distances = places();
-        distances::live_distances(index, codes, alive, query, &mut distances);
-        let limit = find_limit(&distances[0..n], r);
-        mark(&distances[0..n], limit.distance, limit.ties, marks);
+        let mut places = [0u32; 65536];
+        distances::live_distances(index, codes, alive, query, &mut places);
+        let distances = &places[..index.n];
+        find_limit(distances, r).mark(distances, marks);
     }
 }

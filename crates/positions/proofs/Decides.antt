@@ -1,9 +1,6 @@
 -- Laws of yes and no.
 use mathlib.Core.Path.{◌≡◌, refl, sym, ◌∙◌}
-use mathlib.Core.Bool.{Bool, true, false, ◌&&◌, true≢false, false≢true}
-use Prim.Native.Nat.{ℕ, ◌+◌, ◌<◌}
-use native.Mathlib.Omega.{arith}
-use borrow.Author.Count.{below_more}
+use mathlib.Core.Bool.{Bool, true, false, true≢false, false≢true}
 use Rattle.positions.specs.Decides.{Shows, Decides}
 
 module _ {P Q : Type 0} where
@@ -44,14 +41,3 @@ module _ {P : Type 0} where
 -- beside what holds anyway
 pub decides-beside : {P Q : Type 0} {b : Bool} → P → Decides b Q → Decides b (P × Q)
 decides-beside p d = record { yes = λ e. (p, d.yes e); no = λ e f. d.no e f.1 }
-
--- ---- a loop that gathers whether P holds of each number below i
-
-module _ (P : ℕ → Type 0) where
-  pub gathered_none : Decides true ((j : ℕ) → j < 0 → P j)
-  gathered_none = holds (λ j l. absurd (omega arith))
-
-  pub gathered-more : (b c : Bool) (i : ℕ) → Decides b ((j : ℕ) → j < i → P j) → Decides c (P i) → Decides (b && c) ((j : ℕ) → j < i + 1 → P j)
-  gathered-more true true i d e = holds (below_more _ _ (d.yes refl) (e.yes refl))
-  gathered-more true false i d e = fails (λ f. e.no refl (f i (omega arith)))
-  gathered-more false c i d e = fails (λ f. d.no refl (λ j l. f j (omega arith)))

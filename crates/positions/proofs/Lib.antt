@@ -4,6 +4,5 @@ pub mod Decides
 mod Order
 pub mod Consecutive
 pub mod Slots
-mod Firsts
 mod Rising
 mod Walks

@@ -7,10 +7,9 @@ use native.Mathlib.Nat.{eq-or-lt_of_le, le_of_suc-le-suc}
 use native.Mathlib.Omega.{arith}
 use lib.ListN.{get_or}
 use lib.Dec.{eqb}
-use borrow.Author.Tests.{eqb-true, eq-eqb, ne_eqb}
+use borrow.Author.Tests.{eq-eqb, ne_eqb}
 use Rattle.positions.specs.Decides.{Decides}
-use Rattle.positions.specs.Ordered.{Keys, Holds, New, Preceded, Ordered, AllFirst}
-use Rattle.positions.proofs.Decides.{decided}
+use Rattle.positions.specs.Ordered.{Keys, Holds, New, Preceded, Ordered}
 
 -- what is not 0 is one more than a slot's number
 pub entry-slot : (entry : ℕ) → (entry ≡ 0 → ⊥) → entry ≡ suc (entry - 1)
@@ -25,12 +24,6 @@ module _ (a : Keys) (n slot : ℕ) where
 
   pub loose-not : get_or a.keyed slot false ≡ false → (get_or a.held slot 0 ≡ 0 → ⊥) → slot < n → Ordered a n → ⊥
   loose-not off f l o = f ((o.new slot l).loose off)
-
-  pub loose-preceded : get_or a.keyed slot false ≡ false → Preceded a n slot
-  loose-preceded off k p h = absurd (true≢false (sym h.keyed ∙ off))
-
-  pub first-preceded : get_or a.held slot 0 ≡ 0 → Preceded a n slot
-  first-preceded z k p h = absurd (omega (arith, z, h.position))
 
 pub ordered-if : (a : Keys) (n : ℕ) (b : Bool) → ((j : ℕ) → j < n → New a j) → Decides b ((j : ℕ) → j < n → Preceded a n j) → Decides b (Ordered a n)
 ordered-if a n b w d = record { yes = λ e. record { new = w; next = d.yes e }; no = λ e o. d.no e o.next }
@@ -81,11 +74,3 @@ module _ (a : Keys) (n : ℕ) (o : Ordered a n) where
 
   pub position-low : (k p j : ℕ) → j < n → Holds a k p j → p < n
   position-low k p j l h = covered-low (λ i. get_or a.held i 0) n p (all-before k p j l h)
-
--- ---- positions that are all 0
-
-pub eqb-decides : (x y : ℕ) → Decides (eqb x y) (x ≡ y)
-eqb-decides x y = decided (eqb x y) (eqb-true x y) (eq-eqb x y)
-
-pub first-ordered : (a : Keys) (n : ℕ) → AllFirst a.held n → ((j : ℕ) → j < n → New a j) → Ordered a n
-first-ordered a n z w = record { new = w; next = λ j l. first-preceded a n j (z j l) }

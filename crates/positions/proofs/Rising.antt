@@ -6,7 +6,7 @@ use Prim.Native.Nat.{ℕ, suc, ◌≤◌, ◌<◌}
 use native.Mathlib.Nat.{suc_inj, eq-or-lt_of_le, le_of_suc-le-suc}
 use native.Mathlib.Omega.{arith}
 use lib.ListN.{get_or}
-use Rattle.std.specs.Prelude.{Option, Some, None}
+use Rattle.std.specs.Prelude.{Option, Some}
 use Rattle.positions.specs.Ordered.{Keys, Holds, New, Preceded, Ordered}
 use Rattle.positions.proofs.Order.{loose-new}
 use Rattle.positions.specs.Positions.{Follows, first, greater, again, Rising}
@@ -16,9 +16,6 @@ use Rattle.positions.specs.Positions.{Follows, first, greater, again, Rising}
 module _ (a : Keys) (last : Option ℕ) (j : ℕ) where
   pub rising-keyed : get_or a.keyed j false ≡ true → Follows a.keys a.held last j → Rising a last j
   rising-keyed on f = record { follows = λ e. f; loose = λ off. absurd (true≢false (sym on ∙ off)) }
-
-  pub rising-loose : get_or a.keyed j false ≡ false → get_or a.held j 0 ≡ 0 → Rising a last j
-  rising-loose off z = record { follows = λ on. absurd (true≢false (sym on ∙ off)); loose = λ e. z }
 
 -- ---- the slots so far
 
@@ -33,15 +30,6 @@ module _ (a : Keys) where
     pub keyed : (s : ℕ) → last ≡ Some s → get_or a.keyed s false ≡ true
     pub highest : (j k p : ℕ) → j < i → Holds a k p j → (s : ℕ) × (last ≡ Some s) × Highest k p s
     pub ordered : Ordered a i
-
-  pub rises-none : Rises 0 None
-  rises-none =
-      record {
-        early = λ s e. cc;
-        keyed = λ s e. cc;
-        highest = λ j k p l h. absurd (omega arith);
-        ordered = record { new = λ j l. absurd (omega arith); next = λ j l. absurd (omega arith) };
-      }
 
   -- a slot that follows is above all before it
   above : (k p s j : ℕ) → Highest k p s → Follows a.keys a.held (Some s) j → (k < get_or a.keys j 0) ⊎ ((k ≡ get_or a.keys j 0) × (p < get_or a.held j 0))

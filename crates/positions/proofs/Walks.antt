@@ -1,6 +1,6 @@
 -- Walks in the tree, and what an entry adds to it.
 use mathlib.Core.Path.{◌≡◌, refl, sym, ap, ◌∙◌, subst}
-use mathlib.Core.Bool.{true, false, not, true≢false, false≢true}
+use mathlib.Core.Bool.{true, false, not, true≢false}
 use mathlib.Core.Logic.{⊎_elim}
 use mathlib.Core.List.{List}
 use Prim.Native.Nat.{ℕ, suc, ◌+◌, ◌-◌, ◌*◌, ◌/◌, ◌≤◌, ◌<◌}
@@ -15,7 +15,7 @@ use lib.Seq.{get_or-set_same, get_or-set_other}
 use Rattle.positions.specs.Ordered.{Keys, Holds, New, Preceded, Ordered}
 use Rattle.positions.specs.Decides.{Decides}
 use Rattle.positions.proofs.Order.{entry-slot}
-use Rattle.positions.specs.Tree.{mixed, root_of, branch, Reaches, here, further, Keeps, Same, Passes, Node, Tree, Ends, Grown}
+use Rattle.positions.specs.Tree.{mixed, root_of, branch, Reaches, here, further, Keeps, Same, Node, Tree, Ends, Grown}
 
 pub root-low : (roots key position : ℕ) → 0 < roots → root_of roots key position < roots
 unfolding root_of
@@ -29,21 +29,6 @@ reaches-kept k (further e r) = further (k _ _ e) (reaches-kept k r)
 
 pub entry-branch : (roots entry slot bits : ℕ) → entry ≡ suc slot → branch roots (entry - 1) bits ≡ branch roots slot bits
 entry-branch roots entry slot bits e = ap (λ x. branch roots x bits) {x = entry - 1} {y = slot} (omega (arith, e))
-
-module _ (keys held tree : List ℕ) (key position place : ℕ) where
-  pub passes_none : get_or tree place 0 ≡ 0 → Passes keys held tree key position place false
-  passes_none z = record { yes = λ e. absurd (false≢true e); no = λ e slot f. absurd (omega (arith, z, f)) }
-
-  module _ (slot : ℕ) (at : get_or tree place 0 ≡ suc slot) where
-    pub passes-other : (get_or keys slot 0 ≡ key → ⊥) → Passes keys held tree key position place true
-    passes-other n = record { yes = λ e. (slot, at, λ s. n s.0); no = λ e. absurd (true≢false e) }
-
-    pub passes-by-position : get_or keys slot 0 ≡ key → Passes keys held tree key position place (not (eqb (get_or held slot 0) position))
-    passes-by-position k =
-        record {
-          yes = λ e. (slot, at, λ s. eqb-false (get_or held slot 0) position (not-true _ e) s.1);
-          no = λ e i f. subst (λ x. Same keys held key position x) (suc_inj (sym at ∙ f)) (k, eqb-true (get_or held slot 0) position (not-false _ e));
-        }
 
 -- ---- a walk
 

@@ -1,19 +1,20 @@
 -- The keys that entries give, and one entry more.
-use mathlib.Core.Path.{◌≡◌, refl, sym, ap, ap₂, ◌∙◌, subst}
+use mathlib.Core.Path.{◌≡◌, refl, sym, ap, ap₂, ◌∙◌}
 use mathlib.Core.Bool.{Bool, true, false, cond, ◌&&◌}
 use mathlib.Core.List.{List, [], ◌∷◌, ◌++◌}
 use mathlib.Core.Logic.{◌≢◌}
 use mathlib.Core.Option.{Option, none, some}
-use Prim.Native.Nat.{ℕ, zero, suc, ◌+◌, ◌≤◌, ◌<◌}
+use Prim.Native.Nat.{ℕ, zero, suc, ◌+◌, ◌≤◌}
 use native.Mathlib.Numerals.{add-one}
 use native.Mathlib.Omega.{arith}
-use lib.ListN.{length, drop, set, length-set}
-use lib.Seq.{drop_at, set-append_left}
+use lib.ListN.{length, take, drop, set, replicate}
+use Rattle.std.proofs.lemmas.List.{replicate_more}
+use lib.Seq.{set-append_left, length-take-le}
 use lib.Dec.{ltb, eqb}
 use borrow.Author.Tests.{ltb-true, ltb-false, eq-eqb, eqb-true, ne_eqb}
 use Rattle.lists.specs.Lists.{tab, over}
 use Rattle.lists.specs.Keep.{bit, count, Each}
-use Rattle.lists.proofs.Laws.{length-tab, length_over, tab-ext}
+use Rattle.lists.proofs.Laws.{length-tab, tab-ext}
 use Rattle.lists.proofs.Keep.{count-append, each_weaken}
 use Rattle.lists.proofs.Entries.{set-tab}
 use Rattle.lists.proofs.Front.{each-count}
@@ -89,16 +90,14 @@ keys-are n table k s e = last-first (entry_from table) s k (once n (tab (λ i. (
 
 -- ---- arrays
 
-pub over-again : {A : Type 0} (f g : ℕ → A) (n : ℕ) (xs : List A) → over (tab f n) (over (tab g n) xs) ≡ over (tab f n) xs
+-- one value over the first places, as `fill` writes it
+pub filled : {A : Type 0} (v : A) (n : ℕ) (xs : List A) → n ≤ length xs → replicate (length (take n xs)) v ++ drop n xs ≡ over (tab (λ _. v) n) xs
 unfolding over
-over-again f g n xs =
-    ap (λ (ys : List _). tab f n ++ ys)
-    (ap (λ (i : ℕ). drop i (tab g n ++ drop (length (tab g n)) xs)) (length-tab f n ∙ sym (length-tab g n))
-    ∙ drop_at (tab g n) (drop (length (tab g n)) xs) (length (tab g n)) refl ∙ ap (λ (i : ℕ). drop i xs) (length-tab g n ∙ sym (length-tab f n)))
-
--- arrays whose first places are written keep their length
-pub length-again : {A : Type 0} (f : ℕ → A) (n : ℕ) (xs ys : List A) → n ≤ length xs → ys ≡ over (tab f n) xs → n ≤ length ys
-length-again f n xs ys l e = omega (arith, l, ap length e, length_over (tab f n) xs (rw (length-tab f n) l))
+filled {A} v n xs l = rw (length-take-le n xs l, same n, length-tab {A = A} (λ _. v) n)
+  where
+    same : (m : ℕ) → replicate m v ≡ tab (λ _. v) m
+    same zero = refl
+    same (suc m) = rw (← same m) (sym (rw (add-one m) at (replicate_more m v)))
 
 -- one place gets another value
 module _ {A : Type 0} (f g : ℕ → A) (n s : ℕ) (v : A) (here : g s ≡ v) (other : (j : ℕ) → j ≢ s → g j ≡ f j) (old : List A) where
@@ -116,20 +115,17 @@ module _ {A : Type 0} (f g : ℕ → A) (n s : ℕ) (v : A) (here : g s ≡ v) (
       go false l =
           ap₂ (λ (ys zs : List A). ys ++ zs) (tab-ext f g n (λ j h. sym (other j (λ q. absurd (omega (arith, ltb-false s n l, q)))))) ends
 
-module _ (table : List ℕ) (k n : ℕ) (keys₀ : List ℕ) (keyed₀ : List Bool) where
-  -- the first i of k entries have given their keys
+module _ (table : List ℕ) (n : ℕ) (keys₀ : List ℕ) (keyed₀ : List Bool) where
+  -- the first i entries have given their keys
   pub record Given (keys : List ℕ) (keyed : List Bool) (i : ℕ) : Type 0 where
-    pub few : i ≤ k
     pub words : keys ≡ over (tab (word_from table i) n) keys₀
     pub marks : keyed ≡ over (tab (on_from table i) n) keyed₀
-    pub same-words : length keys ≡ length keys₀
-    pub same-marks : length keyed ≡ length keyed₀
 
-  pub given-none : keys₀ ≡ over (tab (λ _. 0) n) keys₀ → keyed₀ ≡ over (tab (λ _. false) n) keyed₀ → Given keys₀ keyed₀ 0
+  pub given-none : {keys : List ℕ} {keyed : List Bool} → keys ≡ over (tab (λ _. 0) n) keys₀ → keyed ≡ over (tab (λ _. false) n) keyed₀ → Given keys keyed 0
   unfolding key_by
-  given-none e f = record { few = omega arith; words = e; marks = f; same-words = refl; same-marks = refl }
+  given-none e f = record { words = e; marks = f }
 
-  module _ {keys : List ℕ} {keyed : List Bool} {i : ℕ} (m : Given keys keyed i) (l : i < k) (slot key : ℕ) (slot_is : slot ≡ (entry_from table i).slot) (key-is : key ≡ (entry_from table i).key) where
+  module _ {keys : List ℕ} {keyed : List Bool} {i : ℕ} (m : Given keys keyed i) (slot key : ℕ) (slot_is : slot ≡ (entry_from table i).slot) (key-is : key ≡ (entry_from table i).key) where
     here : key_by (entry_from table) (suc i) slot ≡ some key
     unfolding key_by
     here = rw (eq-eqb (entry_from table i).slot slot (sym slot_is)) (ap some (sym key-is))
@@ -138,25 +134,15 @@ module _ (table : List ℕ) (k n : ℕ) (keys₀ : List ℕ) (keyed₀ : List Bo
     unfolding key_by
     other j q = rw (ne_eqb (entry_from table i).slot j (λ e. q (sym e ∙ sym slot_is)))
 
-    length-given : {A : Type 0} (b : Bool) (xs : List A) (v : A) → length (cond b (set xs slot v) xs) ≡ length xs
-    length-given true xs v = length-set xs slot v
-    length-given false xs v = refl
-
     pub given-more : (keys' : List ℕ) (keyed' : List Bool) → keys' ≡ cond (ltb slot n) (set keys slot key) keys → keyed' ≡ cond (ltb slot n) (set keyed slot true) keyed →
         Given keys' keyed' (i + 1)
     given-more keys' keyed' e f =
         rw (add-one i)
         (record {
-          few = omega arith;
           words =
               e ∙ given (word_from table i) (word_from table (suc i)) n slot key (ap (λ (o : Option ℕ). key_word (mark_from o)) here)
               (λ j q. ap (λ (o : Option ℕ). key_word (mark_from o)) (other j q)) keys₀ keys m.words;
           marks =
               f ∙ given (on_from table i) (on_from table (suc i)) n slot true (ap (λ (o : Option ℕ). has_key (mark_from o)) here)
               (λ j q. ap (λ (o : Option ℕ). has_key (mark_from o)) (other j q)) keyed₀ keyed m.marks;
-          same-words = ap length e ∙ length-given (ltb slot n) keys key ∙ m.same-words;
-          same-marks = ap length f ∙ length-given (ltb slot n) keyed true ∙ m.same-marks;
         })
-
-  pub given-all : {keys : List ℕ} {keyed : List Bool} {i : ℕ} → Given keys keyed i → k ≤ i → Given keys keyed k
-  given-all {keys} {keyed} {i} m l = let e : i ≡ k = omega (arith, m.few) in subst (Given keys keyed) e m

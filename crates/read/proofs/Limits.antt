@@ -1,6 +1,6 @@
 -- The numbers of a file whose head and limits are sound.
 use mathlib.Core.Path.{◌≡◌, refl, sym, ap, ◌∙◌}
-use mathlib.Core.Logic.{inl, inr, ⊎_elim}
+use mathlib.Core.Logic.{◌⊎◌, ◌≢◌, inl, inr, ⊎_elim}
 use mathlib.Core.Bool.{false, cond}
 use mathlib.Core.List.{List}
 use Prim.Native.Nat.{ℕ, ◌≤◌}
@@ -15,49 +15,26 @@ use Rattle.index.specs.declared.Form.{Form}
 use Rattle.index.specs.declared.Index.{Index}
 use Rattle.index.specs.Arrays.{Arrays}
 use Rattle.index.specs.State.{header_of, capacity, record_of}
-use Rattle.index.specs.Form.{form_of, stage_size}
-use Rattle.index.specs.Read.{form_in, dim_in, count_in, working_field, header_in, head_fault, over_limits, entry_from, well_keyed, first_length, second_length, table_in, entry_count, entries_in, state_in}
+use Rattle.index.specs.Form.{form_of}
+use Rattle.index.specs.Read.{version_in, form_in, dim_in, count_in, working_field, header_in, head_fault, over_limits, entry_from, well_keyed, table_in, entry_count, entries_in, state_in}
 use Rattle.lists.proofs.Tests.{and_left, and_right}
 use Rattle.index.proofs.Kept.{when-none}
 use Rattle.index.proofs.Read.{all-passed, or-none, not-not}
 use Rattle.fit.proofs.Rooms.{in-width}
 use Rattle.read.specs.Table.{slots_from}
 use Rattle.layout.proofs.Numbers.{small-block}
-use Rattle.read.specs.declared.Sizes.{Sizes}
-use Rattle.read.specs.Parts.{IsScale, sizes_of, keys_sound}
+use Rattle.read.specs.Parts.{keys_sound}
 
 -- every version has scales of 4 bytes or of 2
-pub form-scaled : (v : ℕ) → IsScale (form_of v).scale
+form-scaled : (v : ℕ) → ((form_of v).scale ≡ 4) ⊎ ((form_of v).scale ≡ 2)
 unfolding form_of
-form-scaled v = either (λ (s : ℕ). IsScale s) (eqb v 1) (inl refl) (inr refl)
+form-scaled v = either (λ (s : ℕ). (s ≡ 4) ⊎ (s ≡ 2)) (eqb v 1) (inl refl) (inr refl)
 
-pub scale-low : (s : ℕ) → IsScale s → s ≤ 4
-scale-low s h = ⊎_elim (λ (e : s ≡ 4). omega (arith, e)) (λ (e : s ≡ 2). omega (arith, e)) h
+pub half-scaled : (file : List ℕ) (f : Form) → f ≡ form_in file → f.scale ≢ 4 → f.scale ≡ 2
+half-scaled file f e other = rw e (⊎_elim (λ (h : (form_in file).scale ≡ 4). absurd (other (rw e h))) (λ (h : (form_in file).scale ≡ 2). h) (form-scaled (version_in file)))
 
 pub few-slots : (file : List ℕ) → over_limits file ≡ false → count_in file ≤ 65536
 few-slots file low = ltb-false 65536 (count_in file) (or-none (ltb 4096 (dim_in file)) (ltb 65536 (count_in file)) low).1
-
--- each size by itself
-module _ (file : List ℕ) (s : Sizes) (e : s ≡ sizes_of file) where
-  pub form-is : s.form ≡ form_in file
-  unfolding sizes_of
-  form-is = ap (λ (t : Sizes). t.form) e
-
-  pub block-size-is : s.block ≡ block_size (header_in file)
-  unfolding sizes_of
-  block-size-is = ap (λ (t : Sizes). t.block) e
-
-  pub count-is : s.n ≡ count_in file
-  unfolding sizes_of
-  count-is = ap (λ (t : Sizes). t.n) e
-
-  pub first-is : s.first ≡ first_length file
-  unfolding sizes_of
-  first-is = ap (λ (t : Sizes). t.first) e
-
-  pub second_is : s.second ≡ second_length file
-  unfolding sizes_of
-  second_is = ap (λ (t : Sizes). t.second) e
 
 -- the key entries' test by the table, the number of entries and that of slots
 pub sound-is : (file table : List ℕ) (k n : ℕ) → table ≡ table_in file → k ≡ entry_count file → n ≡ count_in file →
@@ -101,13 +78,6 @@ module _ (file : List ℕ) (head : head_fault file ≡ 0) where
   pub block-is : (x : Index) (block : ℕ) → x ≡ record_of (state_in file) → block ≡ at_width x.bits (block_size (header_of x)) → block ≡ block_size (header_in file)
   unfolding record_of state_in
   block-is x block e f = f ∙ ap (λ (y : Index). at_width y.bits (block_size (header_of y))) e ∙ at_width_lem (block_size (header_in file))
-
-  pub sizes-are : (f : Form) (block n first second : ℕ) → f ≡ form_in file → block ≡ block_size (header_in file) → n ≡ count_in file → first ≡ stage_size f block n →
-      second ≡ cond f.second first 0 → ◌≡◌ {A = Sizes} (record { form = f; block = block; n = n; first = first; second = second }) (sizes_of file)
-  unfolding sizes_of
-  sizes-are f block n first second ef eb en e₁ e₂ =
-      let l : first ≡ first_length file = e₁ ∙ (λ i. stage_size (ef i) (eb i) (en i)) in
-      λ i. record { form = ef i; block = eb i; n = en i; first = l i; second = (e₂ ∙ (λ j. cond (ef j).second (l j) 0)) i }
 
   -- the room that the arrays have for the file's slots
   pub room-is : (a : Arrays) (x : Index) (room : ℕ) → x ≡ record_of (state_in file) → room ≡ at_width x.bits (capacity (header_of x) a) → room ≡ capacity (header_in file) a

@@ -8,7 +8,7 @@ use native.Mathlib.Decide.{ℕ_discrete}
 use native.Mathlib.Nat.{eq-or-lt_of_le}
 use native.Mathlib.Omega.{arith}
 use mathlib.Core.Logic.{◌⊎◌, inl, inr}
-use lib.ListN.{length, get_or, set, replicate, length-set}
+use lib.ListN.{length, get_or, set, replicate, length-set, length-replicate}
 use lib.Seq.{get_or-set_same, get_or-set_other}
 use lib.Dec.{ltb, eqb}
 use borrow.Author.Tests.{lt-ltb, le-ltb, eq-eqb, ne_eqb}
@@ -64,26 +64,24 @@ module _ (f : ℕ → ℕ) where
         (rw (ne_eqb (count (eqb (f i)) (tab f k)) 1 (λ e. absurd (omega (arith, count-grows (eqb (f i)) (suc i) k l, own-count i)))) (and-false (ltb (f i) n)))
 
     -- the first i entries are sound, and their slots are marked
-    pub record Marked (old seen : List Bool) (i : ℕ) : Type 0 where
-      pub few : i ≤ k
+    pub record Marked (seen : List Bool) (i : ℕ) : Type 0 where
       pub low : (j : ℕ) → j < i → f j < n
       pub marks : (s : ℕ) → count (eqb s) (tab f i) ≡ bit (get_or seen s false)
-      pub same : length seen ≡ length old
+      pub room : n ≤ length seen
 
-    pub marked-none : (old : List Bool) → ((s : ℕ) → get_or old s false ≡ false) → Marked old old 0
-    marked-none old none = record { few = omega arith; low = λ j l. absurd (omega arith); marks = λ s. sym (ap bit (none s)); same = refl }
+    pub marked-none : (m : ℕ) → n ≤ m → Marked (replicate m false) 0
+    marked-none m l = record { low = λ j h. absurd (omega arith); marks = λ s. sym (ap bit (no-mark m s)); room = rw (length-replicate m false) l }
 
-    module _ {old seen : List Bool} {i : ℕ} (m : Marked old seen i) (l : i < k) where
+    module _ {seen : List Bool} {i : ℕ} (m : Marked seen i) (l : i < k) where
       pub seen_twice : get_or seen (f i) false ≡ true → well_keyed n (tab f k) ≡ false
       seen_twice e = came-twice i l (omega (arith, m.marks (f i), ap bit e))
 
-      pub marked_more : f i < n → n ≤ length old → get_or seen (f i) false ≡ false → Marked old (set seen (f i) true) (i + 1)
-      marked_more low room e =
+      pub marked_more : f i < n → get_or seen (f i) false ≡ false → Marked (set seen (f i) true) (i + 1)
+      marked_more low e =
           record {
-            few = omega arith;
             low = λ j h. below j h (ℕ_discrete j i);
             marks = λ s. rw (add-one i) (at s (ℕ_discrete s (f i)));
-            same = length-set seen (f i) true ∙ m.same;
+            room = rw (length-set seen (f i) true) m.room;
           }
         where
           below : (j : ℕ) → j < i + 1 → Dec (j ≡ i) → f j < n
@@ -92,15 +90,14 @@ module _ (f : ℕ → ℕ) where
 
           at : (s : ℕ) → Dec (s ≡ f i) → count (eqb s) (tab f (suc i)) ≡ bit (get_or (set seen (f i) true) s false)
           at s (yes q) =
-              rw (q, get_or-set_same seen (f i) true false (omega (arith, m.same)))
+              rw (q, get_or-set_same seen (f i) true false (omega (arith, m.room)))
               (own-count i ∙ omega (arith, m.marks (f i), ap bit e))
           at s (no q) =
               rw (get_or-set_other seen (f i) s true false q)
               (count-one (eqb s) i ∙ omega (arith, m.marks s, ap bit (ne_eqb s (f i) q)))
 
-    pub marked_all : {old seen : List Bool} {i : ℕ} → Marked old seen i → k ≤ i → well_keyed n (tab f k) ≡ true
-    marked_all {old} {seen} {i} m l =
-        let e : i ≡ k = omega (arith, m.few) in
+    pub marked_all : {seen : List Bool} {i : ℕ} → Marked seen i → i ≡ k → well_keyed n (tab f k) ≡ true
+    marked_all {seen} {i} m e =
         each_all (λ s. ltb s n && eqb (count (eqb s) (tab f k)) 1) (tab f k)
         (each-tab (λ s. (ltb s n && eqb (count (eqb s) (tab f k)) 1) ≡ true) f k (λ j h. sound j h (m.low j (omega arith)) (ap (λ (i : ℕ). count (eqb (f j)) (tab f i)) (sym e) ∙ m.marks (f j))))
       where

@@ -159,7 +159,7 @@ impl<'a> Tabled<'a> {
         self.evens[i] * self.pairs[at] + self.odds[i] * self.pairs[at + 1]
     }
 
-    // Eight running sums with eight bytes more, lane j taking byte i + j: lane by lane, as the compiler then keeps them in vector registers.
+    // Eight running sums with eight bytes more, lane j taking byte i + j. Lane by lane is the form that the paper names, and stays in vector registers.
     fn byte_step(&self, acc: [f32; 8], block: &[u8], i: usize) -> [f32; 8]
         requires { (i + 8 ≤ length block.now) × (length block.now ≤ length self.now.of.query.now / 2) }
         ensures { result ≡ tab (λ j. get_or acc j nan

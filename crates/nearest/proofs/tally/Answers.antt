@@ -2,26 +2,20 @@ use Prim.Native.Nat.{◌<◌}
 use native.Mathlib.Omega.{arith}
 use lib.ListN.{length, get_or}
 use Rattle.lists.proofs.Front.{each_at}
-use Rattle.nearest.proofs.Counting.{tallied-none, tallied-at, tallied-more, level-few}
+use Rattle.nearest.proofs.Counting.{tallied-none, tallied-more, level-few}
 use Rattle.nearest.proofs.tally.Goals as goal
 
-pub loop-i-init : goal.loop-i-init
-loop-i-init c = tallied-none _ _ c.requires.2
+pub loop-d-init : goal.loop-d-init
+loop-d-init c = tallied-none _ _ c.requires.zero
 
 pub overflow_add-counts : goal.overflow_add-counts
 overflow_add-counts c =
-    let inside : get_or c.args.distances.now c.loop-i.i 0 < length c.args.counts.now = each_at (λ d. d < length c.args.counts.now) c.args.distances.now c.loop-i.i 0 c.requires.1 c.loop-i-test.true in
-    let m = c.loop-i in
-    omega (
-      arith,
-      c.requires.0,
-      tallied-at m.invariant _ inside,
-      level-few c.args.distances.now (get_or c.args.distances.now m.i 0)
-          m.i,
-      m.invariant.within,
-    )
+    let m = c.loop-d in
+    let d = get_or c.args.distances.now m.d-index 0 in
+    let inside : d < length c.args.counts.now = each_at (λ d. d < length c.args.counts.now) c.args.distances.now m.d-index 0 c.requires.low c.loop-d-test.true in
+    omega (arith, m.invariant.are d inside, level-few c.args.distances.now d m.d-index, m.invariant.within, c.requires.few)
 
-pub loop-i-preserved : goal.loop-i-preserved
-loop-i-preserved c =
-    let inside : get_or c.args.distances.now c.loop-i.i 0 < length c.args.counts.now = each_at (λ d. d < length c.args.counts.now) c.args.distances.now c.loop-i.i 0 c.requires.1 c.loop-i-test.true in
-    tallied-more c.loop-i.invariant c.loop-i-test.true inside
+pub loop-d-preserved : goal.loop-d-preserved
+loop-d-preserved c =
+    tallied-more c.loop-d.invariant c.loop-d-test.true
+    (each_at (λ d. d < length c.args.counts.now) c.args.distances.now c.loop-d.d-index 0 c.requires.low c.loop-d-test.true)

@@ -1,11 +1,7 @@
-use Prim.Native.Nat.{◌+◌, ◌*◌, ◌-◌}
+use Prim.Native.Nat.{◌+◌, ◌*◌}
 use lib.ListN.{get_or}
 use Rattle.lists.proofs.Writing.{Written}
 use Rattle.nearest.proofs.distances.every_second.Given as goal
 
--- `nearest::distances::every_second` meets its contract.
 abbrev pub invariant-loop-i : goal.invariant-loop-i
 invariant-loop-i l = Written (λ j. get_or l.tops (j * 2 + l.first) 0) l.n l.i l.initial.out l.out
-
-abbrev pub decreases-loop-i : goal.decreases-loop-i
-decreases-loop-i l = l.n - l.i

@@ -1,6 +1,9 @@
 use mathlib.Core.Path.{◌≡◌, sym, ap, ◌∙◌}
+use mathlib.Core.List.{List}
 use native.Mathlib.Omega.{arith}
-use lib.ListN.{length}
+use lib.Ieee.{Float, binary32, of_bits}
+use lib.ListN.{length, length-replicate, replicate}
+use Prim.Native.Nat.{ℕ}
 use Rattle.lloyd.specs.Tables.{boundaries_of}
 use Rattle.unit.specs.Brought.{query_of}
 use Rattle.index.specs.State.{header_of}
@@ -11,31 +14,27 @@ use Rattle.nearest.proofs.distances.live_distances.Goals as goal
 pub write_tops-requires : goal.write_tops-requires
 write_tops-requires c =
     let table = own-table c.boundaries-boundaries.ensures in
-    let m = rotatable-of _ _ _ c.requires.2 in
-    let lanes = c.padded_dim-lanes.ensures in (
+    let room = (rotatable-of _ _ _ c.requires.2).room in (
       few-own table,
-      omega (arith, m.room, lanes, c.floats-prepared.type_inv, c.prepare-rnorm.auto),
-      omega (arith, m.room, lanes, c.bytes-tops.type_inv),
+      omega (arith, room, c.padded_dim-lanes.ensures, c.prepare-rnorm.auto, length-replicate {A = Float}),
+      omega (arith, room, c.padded_dim-lanes.ensures),
     )
 
 pub write_distances-requires : goal.write_distances-requires
 write_distances-requires c =
     let table = own-table c.boundaries-boundaries.ensures in
-    let pre = c.requires in
-    let m = rotatable-of _ _ _ pre.2 in
-    let lanes = c.padded_dim-lanes.ensures in (
-      omega (arith, m.room, lanes),
-      omega (arith, m.room, lanes, c.bytes-tops.type_inv, c.write_tops.auto),
-      tops-low _ (few-own table) c.prepare-rnorm.new.out _ _ c.bytes-tops.result _ c.write_tops.ensures,
-      pre.0,
+    let room = (rotatable-of _ _ _ c.requires.2).room in (
+      omega (arith, room, c.padded_dim-lanes.ensures),
+      omega (arith, room, c.padded_dim-lanes.ensures, c.write_tops.auto, length-replicate {A = ℕ}),
+      tops-low _ (few-own table) c.prepare-rnorm.new.out _ _ _ _ c.write_tops.ensures,
+      c.requires.0,
     )
 
 pub returns : goal.returns
 returns c =
     let table = own-table c.boundaries-boundaries.ensures in
-    let floats = c.floats-prepared in
-    let places : length floats.result ≡ 4096 = omega (arith, floats.type_inv) in
+    let zeros : List Float = replicate 4096 (of_bits binary32 0) in
+    let room : length zeros ≡ 4096 = length-replicate 4096 (of_bits binary32 0) in
     c.write_distances.ensures ∙
-    slots-measured (header_of c.args.index) (query_of c.args.query.now) floats.result _ _ (rw places c.requires.2) c.prepare-rnorm.ensures _ (table ∙ ap boundaries_of (sym c.requires.1)) _
-    c.padded_dim-lanes.ensures _ _ c.write_tops.ensures c.args.codes.now c.args.alive.now _ c.requires.1 c.bytes_per_vector-size.ensures
-    c.args.index.n c.args.distances.now
+    slots-measured (header_of c.args.index) (query_of c.args.query.now) zeros _ _ (rw room c.requires.2) c.prepare-rnorm.ensures _ (table ∙ ap boundaries_of (sym c.requires.1)) _
+    c.padded_dim-lanes.ensures _ _ c.write_tops.ensures c.args.codes.now c.args.alive.now _ c.requires.1 c.bytes_per_vector-size.ensures c.args.index.n c.args.distances.now

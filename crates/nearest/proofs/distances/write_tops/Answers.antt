@@ -1,7 +1,7 @@
 use mathlib.Core.Path.{◌≡◌, ap}
+use mathlib.Core.List.{List}
 use Prim.Native.Nat.{ℕ, ◌/◌, ◌≤◌}
 use native.Mathlib.Omega.{arith}
-use mathlib.Core.List.{List}
 use lib.ListN.{length, get_or}
 use lib.Ieee.{Float, nan}
 use Rattle.pattern.specs.Binary32.{◌⊗◌}
@@ -18,14 +18,15 @@ top-of : (bs : List Float) (r x : Float) {code : ℕ} → code ≡ quantized bs 
 unfolding top_of
 top-of bs r x e = ap (λ (n : ℕ). n / 4) e
 
-pub loop-i-init : goal.loop-i-init
-loop-i-init c = written_none _ _ _ c.requires.2
+pub loop-lane-init : goal.loop-lane-init
+loop-lane-init c = written_none _ _ _ c.requires.2
 
 pub overflow_cast-tops : goal.overflow_cast-tops
 overflow_cast-tops c =
-    omega (arith, code-low c.args.boundaries.now (get_or c.args.query.now c.loop-i.i nan ⊗ c.args.rnorm) c.requires.0 c.quantize_in.ensures)
+    let low = code-low c.args.boundaries.now (get_or c.args.query.now c.loop-lane.lane nan ⊗ c.args.rnorm) c.requires.0 c.quantize_in.ensures in
+    record { fits = omega (arith, low) }
 
-pub loop-i-preserved : goal.loop-i-preserved
-loop-i-preserved c =
-    let top = top-of c.args.boundaries.now c.args.rnorm (get_or c.args.query.now c.loop-i.i nan) c.quantize_in.ensures in
-    rw top (written-more _ _ _ c.requires.2 c.loop-i.invariant c.loop-i-test.true)
+pub loop-lane-preserved : goal.loop-lane-preserved
+loop-lane-preserved c =
+    let top = top-of c.args.boundaries.now c.args.rnorm (get_or c.args.query.now c.loop-lane.lane nan) c.quantize_in.ensures in
+    rw top (written-more _ _ _ c.requires.2 c.loop-lane.invariant c.loop-lane-test.true)
