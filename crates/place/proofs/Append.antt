@@ -1,8 +1,9 @@
 -- A slot written behind those in use is what the step of the value says.
 use mathlib.Core.Path.{◌≡◌, refl, sym, ap, ◌∙◌}
-use mathlib.Core.Bool.{Bool, true, false}
+use mathlib.Core.Bool.{true, false}
 use mathlib.Core.List.{List, [], ◌∷◌, ◌++◌}
-use Prim.Native.Nat.{ℕ, zero, suc, ◌<◌}
+use Rattle.std.specs.Prelude.{Option, Some, None}
+use Prim.Native.Nat.{ℕ, zero, suc, ◌+◌, ◌<◌}
 use native.Mathlib.Omega.{arith}
 use lib.Dec.{leb}
 use lib.ListN.{length, length-append}
@@ -14,7 +15,7 @@ use Rattle.encode.specs.declared.Header.{Header}
 use Rattle.encode.specs.Coded.{fault, no_spare}
 use Rattle.index.specs.declared.Index.{Index}
 use Rattle.index.specs.Arrays.{Arrays}
-use Rattle.index.specs.State.{Mark, Slot, live, header_of, capacity, mark_of, slot_at, state_of, record_of, overlay, put_slot, new_slot, with_counts}
+use Rattle.index.specs.State.{Mark, Slot, is_live, live, header_of, capacity, slot_at, state_of, record_of, overlay, put_slot, new_slot, with_counts}
 use Rattle.index.specs.Fit.{fit}
 use Rattle.index.specs.Codec.{encoded}
 use Rattle.index.specs.Step.{Item, first_of, when, refused, slot, Outcome, with_slots, guarded, appended}
@@ -23,9 +24,8 @@ use Rattle.index.specs.Answers.{result_of}
 use Rattle.index.proofs.Encoded.{encoded-shaped}
 use Rattle.index.proofs.Fits.{overlay-self, record-self, fit-sound}
 use Rattle.index.proofs.Places.{overlay-more}
-use Rattle.index.proofs.Marks.{mark-live}
 use Rattle.place.specs.Place.{recoded, after_add, refusal}
-use Rattle.place.specs.Adding.{spot}
+use Rattle.place.specs.Adding.{spot, mark_for}
 use Rattle.place.proofs.Calls.{unless_refused, wrote, accepted}
 
 -- how many of the value's slots are live
@@ -38,7 +38,11 @@ pub step-refused : (x : Index) (a : Arrays) (e : fit x a ≡ true) (n : ℕ) (o 
 unfolding guarded
 step-refused x a e n o = λ j. result_of (sym (record-self x a e) j) (sym (overlay-self x a e) j) (refused (suc n))
 
-module _ (x : Index) (a : Arrays) (k : ℕ) (on : Bool) (p : ℕ) (v : Item) where
+mark-live : (k : Option (ℕ × ℕ)) → is_live (mark_for k) ≡ true
+mark-live None = refl
+mark-live (Some k) = refl
+
+module _ (x : Index) (a : Arrays) (k : Option (ℕ × ℕ)) (v : Item) where
   abbrev h : Header
   h = header_of x
 
@@ -46,7 +50,7 @@ module _ (x : Index) (a : Arrays) (k : ℕ) (on : Bool) (p : ℕ) (v : Item) whe
   room = capacity h a
 
   abbrev mark : Mark
-  mark = mark_of 1 on k p
+  mark = mark_for k
 
   abbrev new : Slot
   new = new_slot mark (encoded h no_spare v)
@@ -55,7 +59,7 @@ module _ (x : Index) (a : Arrays) (k : ℕ) (on : Bool) (p : ℕ) (v : Item) whe
   slots = tab (slot_at h a) x.n
 
   abbrev done : Result
-  done = wrote x a (spot x.n k on p) true v
+  done = wrote x a (spot x.n k) true v
 
   module _ (e : fit x a ≡ true) where
     many : length slots ≡ x.n
@@ -78,10 +82,10 @@ module _ (x : Index) (a : Arrays) (k : ℕ) (on : Bool) (p : ℕ) (v : Item) whe
         ∙ (λ j. put_slot h (overlay-self x a e j) (many j) new)
 
     record_is : record_of (with_slots (state_of x a) false (slots ++ (new ∷ []))) ≡ after_add x true
-    unfolding record_of after_add state_of
+    unfolding record_of state_of
     record_is =
-        let n : length (slots ++ (new ∷ [])) ≡ suc x.n = omega (arith, length-append slots (new ∷ []), many) in
-        let lives : count live (slots ++ (new ∷ [])) ≡ suc x.live = omega (arith, count-append live slots (new ∷ []), live-count x a e, ap bit (mark-live 1 on k p)) in
+        let n : length (slots ++ (new ∷ [])) ≡ x.n + 1 = omega (arith, length-append slots (new ∷ []), many) in
+        let lives : count live (slots ++ (new ∷ [])) ≡ x.live + 1 = omega (arith, count-append live slots (new ∷ []), live-count x a e, ap bit (mark-live k)) in
         λ j. with_counts x (n j) (lives j) false
 
     outcome : (n : ℕ) → tests x.n ≡ n → unless_refused x a n done ≡ laid_over a (guarded (state_of x a) n (grown x.n))

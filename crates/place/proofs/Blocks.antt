@@ -1,11 +1,12 @@
 -- One of the slots of an array written anew.
-use mathlib.Core.Path.{◌≡◌, refl, sym, ap, ◌∙◌}
+use mathlib.Core.Path.{◌≡◌, sym, ap, ◌∙◌}
 use mathlib.Core.List.{List, [], ◌∷◌, ◌++◌, map, append_assoc}
 use Prim.Native.Nat.{ℕ, zero, suc, ◌+◌, ◌*◌, ◌<◌}
 use native.Mathlib.Nat.{suc-mul, zero-mul}
 use native.Mathlib.Omega.{arith}
 use lib.ListN.{length, set, take, drop, length-set, length-map}
 use lib.Seq.{take-append-add, drop-append-add, drop_at, set-append_left}
+use Rattle.std.proofs.lemmas.List.{map-set}
 use Rattle.lists.specs.Lists.{over, splice, joined}
 use Rattle.lists.specs.Keep.{Each}
 use Rattle.lists.proofs.Front.{each_map}
@@ -16,11 +17,6 @@ use Rattle.index.specs.State.{scales_of, blocks_of}
 use Rattle.index.proofs.Blocks.{length-joined}
 
 -- ---- one entry
-
-pub map-set : {A B : Type 0} (g : A → B) (xs : List A) (i : ℕ) (y : A) → map g (set xs i y) ≡ set (map g xs) i (g y)
-map-set g [] i y = refl
-map-set g (x ∷ xs) zero y = refl
-map-set g (x ∷ xs) (suc i) y = ap (λ zs. g x ∷ zs) (map-set g xs i y)
 
 pub each_set : {A : Type 0} (P : A → Type 0) (xs : List A) (i : ℕ) (y : A) → Each P xs → P y → Each P (set xs i y)
 each_set P [] i y h p = tt

@@ -1,20 +1,22 @@
 -- The refusals of an add, and what an accepted one writes.
-use mathlib.Core.Path.{◌≡◌, refl, sym, ap, ◌∙◌}
-use mathlib.Core.Bool.{Bool, true, false, not, cond}
-use mathlib.Core.List.{List, [], ◌∷◌}
+use mathlib.Core.Path.{◌≡◌, refl, sym, ◌∙◌}
+use mathlib.Core.Bool.{Bool, true, false, not}
+use mathlib.Core.List.{[], ◌∷◌}
 use Prim.Native.Nat.{ℕ, zero, suc, ◌≤◌, ◌<◌}
 use native.Mathlib.Omega.{arith}
 use borrow.Author.Tests.{le-leb, lt-leb, leb-false}
 use lib.Dec.{leb, eqb}
-use lib.ListN.{set}
 use Rattle.lists.proofs.Laws.{length-tab}
 use Rattle.lists.proofs.Keep.{count-length}
 use Rattle.codes.specs.Writing.{at_width}
 use Rattle.vectors.proofs.Faults.{has-length}
 use Rattle.encode.specs.Coded.{fault}
+use Rattle.refusal.specs.declared.Refusal.{Refusal}
+use Rattle.refusal.specs.Refusal.{number_of}
+use Rattle.refusal.proofs.Numbers.{above_0}
 use Rattle.index.specs.declared.Index.{Index}
 use Rattle.index.specs.Arrays.{Arrays}
-use Rattle.index.specs.State.{Slot, header_of, capacity, mark_of, alive_of, has_key, key_word, position, slot_at, put_slot, new_slot}
+use Rattle.index.specs.State.{Slot, header_of, capacity, slot_at, put_slot, new_slot}
 use Rattle.index.specs.Fit.{row_at, rows, fit}
 use Rattle.index.specs.Step.{Item, first_of, when, refused, slot}
 use Rattle.index.specs.Call.{Result}
@@ -23,7 +25,8 @@ use Rattle.index.proofs.Overlay.{roomy}
 use Rattle.index.proofs.Fits.{fitting}
 use Rattle.fit.proofs.Rooms.{enough, in-width}
 use Rattle.place.specs.declared.Spot.{Spot}
-use Rattle.place.specs.Place.{recoded, put_code, data_in, Codable, after_add, refusal}
+use Rattle.place.specs.Place.{recoded, put_code, put_mark, Codable, after_add, refusal}
+use Rattle.place.specs.Adding.{mark_of_spot}
 use Rattle.place.proofs.Codes.{within}
 
 -- ---- the refusal, test by test
@@ -34,12 +37,12 @@ module _ (x : Index) (a : Arrays) (i : ℕ) (v : Item) where
   refuse-misfit e = rw e
 
   module _ (e : fit x a ≡ true) where
-    pub refuse-fault : (f : ℕ) → f ≡ fault (header_of x) v.vector → (f ≡ 0 → ⊥) → f ≡ refusal x a i v
+    pub refuse-fault : (r : Refusal) → number_of r ≡ fault (header_of x) v.vector → number_of r ≡ refusal x a i v
     unfolding refusal first_of
-    refuse-fault f is some = rw (e, sym is) (go f some)
+    refuse-fault r is = rw (e, sym is) (go (number_of r) (above_0 r))
       where
-        go : (n : ℕ) → (n ≡ 0 → ⊥) → n ≡ first_of (n ∷ when (leb (capacity (header_of x) a) i) 8 ∷ [])
-        go zero s = absurd (s refl)
+        go : (n : ℕ) → 0 < n → n ≡ first_of (n ∷ when (leb (capacity (header_of x) a) i) 8 ∷ [])
+        go zero s = absurd (omega arith)
         go (suc n) s = refl
 
     -- the room, as the program asks for it
@@ -74,7 +77,7 @@ accepted x a i v r = go (fit x a) refl (fault (header_of x) v.vector) refl (leb 
     go true f zero g false k q = record { fits = f; vector = g; below = leb-false (capacity (header_of x) a) i k }
 
 module _ (x : Index) (a : Arrays) (i : ℕ) (v : Item) (ok : Accepted x a i v) where
-  pub codable : Codable (header_of x) (data_in a.codes a.scales a.codes2 a.scales2) i v
+  pub codable : Codable (header_of x) a i v
   codable =
       let f = fitting x a ok.fits in
       let r = roomy (suc i) (header_of x) a ok.below in
@@ -101,48 +104,19 @@ abbrev pub unless_refused : Index → Arrays → (refusal : ℕ) → Result → 
 unless_refused x a zero r = r
 unless_refused x a (suc n) r = result_of x a (refused (suc n))
 
-pub refused_as : (x : Index) (a : Arrays) (n : ℕ) (r : Result) → (n ≡ 0 → ⊥) → result_of x a (refused n) ≡ unless_refused x a n r
-refused_as x a zero r s = absurd (s refl)
+pub refused_as : (x : Index) (a : Arrays) (n : ℕ) (r : Result) → 0 < n → result_of x a (refused n) ≡ unless_refused x a n r
+refused_as x a zero r s = absurd (omega arith)
 refused_as x a (suc n) r s = refl
 
 -- the slot anew
 abbrev pub written : Index → Arrays → Spot → (fresh : Bool) → Item → Slot
-written x a s fresh v = new_slot (mark_of 1 s.has_key s.key s.position) (recoded (header_of x) fresh (slot_at (header_of x) a s.slot).code v)
+written x a s fresh v = new_slot (mark_of_spot s) (recoded (header_of x) fresh (slot_at (header_of x) a s.slot).code v)
 
 abbrev pub wrote : Index → Arrays → Spot → (fresh : Bool) → Item → Result
 wrote x a s fresh v = result_of (after_add x fresh) (put_slot (header_of x) a s.slot (written x a s fresh v)) (slot s.slot)
 
--- the parts of a live slot's mark
-record Parts (k : ℕ) (on : Bool) (p : ℕ) : Type 0 where
-  word : k ≡ key_word (mark_of 1 on k p)
-  keyed : on ≡ has_key (mark_of 1 on k p)
-  held : p ≡ position (mark_of 1 on k p)
-  alive : 1 ≡ alive_of (mark_of 1 on k p)
-
-parts : (k : ℕ) (on : Bool) (p : ℕ) → cond on p 0 ≡ p → Parts k on p
-parts k true p e = record { word = refl; keyed = refl; held = refl; alive = refl }
-parts k false p e = record { word = refl; keyed = refl; held = sym e; alive = refl }
-
-module _ (x : Index) (a : Arrays) (s : Spot) (marked : cond s.has_key s.position 0 ≡ s.position) (fresh : Bool) (v : Item)
-    (codes scales codes2 scales2 keys : List ℕ) (keyed : List Bool) (held alive : List ℕ) (y : Index) where
-  pub done : data_in codes scales codes2 scales2 ≡ put_code (header_of x) (data_in a.codes a.scales a.codes2 a.scales2) fresh s.slot v →
-      keys ≡ set a.keys s.slot s.key → keyed ≡ set a.keyed s.slot s.has_key → held ≡ set a.held s.slot s.position →
-      alive ≡ set a.alive s.slot 1 → y ≡ after_add x fresh →
-      result_of y (record { codes = codes; scales = scales; keys = keys; keyed = keyed; held = held; alive = alive; codes2 = codes2; scales2 = scales2 }) (slot s.slot)
-      ≡ wrote x a s fresh v
-  unfolding put_code put_slot slot_at
-  done d e f g h z =
-      let m = parts s.key s.has_key s.position marked in
-      let place : record { codes = codes; scales = scales; keys = keys; keyed = keyed; held = held; alive = alive; codes2 = codes2; scales2 = scales2 }
-      ≡ put_slot (header_of x) a s.slot (written x a s fresh v) =
-      λ j. record {
-        codes = (d j).codes;
-        scales = (d j).scales;
-        keys = (e ∙ ap (set a.keys s.slot) m.word) j;
-        keyed = (f ∙ ap (set a.keyed s.slot) m.keyed) j;
-        held = (g ∙ ap (set a.held s.slot) m.held) j;
-        alive = (h ∙ ap (set a.alive s.slot) m.alive) j;
-        codes2 = (d j).codes2;
-        scales2 = (d j).scales2;
-      } in
-      λ j. result_of (z j) (place j) (slot s.slot)
+-- its code, and then its mark
+pub both-put : (x : Index) (a : Arrays) (s : Spot) (fresh : Bool) (v : Item) →
+    put_mark (put_code (header_of x) a fresh s.slot v) s.slot (mark_of_spot s) ≡ put_slot (header_of x) a s.slot (written x a s fresh v)
+unfolding put_code put_mark put_slot
+both-put x a s fresh v = refl

@@ -40,7 +40,7 @@ use Rattle.index.specs.Step.{Item}
 use Rattle.index.specs.Sound.{block_length, Ranged}
 use Rattle.index.proofs.Encoded.{encoded-shaped}
 use Rattle.fit.proofs.Rooms.{in-width}
-use Rattle.place.specs.Place.{recoded, put_code, data_in, Codable}
+use Rattle.place.specs.Place.{recoded, put_code, with_codes, Codable}
 
 -- ---- a header in range
 
@@ -79,7 +79,7 @@ module _ (h : Header) (r : Ranged h) where
   working-most = omega (arith, (within 1 h.dim h.working_dim r.working_dim).1, (within 1 4096 h.dim r.dim).1)
 
   -- the bytes of a slot, as the program asks for them
-  pub size_is : (b : ℕ) → b ≡ at_width h.bits (block_size h) → b ≡ block_size h
+  size_is : (b : ℕ) → b ≡ at_width h.bits (block_size h) → b ≡ block_size h
   size_is b e = e ∙ in-width h.bits (block_size h) wide.0 wide.1
 
 -- the tables of the width, in the first places of arrays
@@ -101,10 +101,7 @@ mid-splice from n xs ys e =
 
 -- ---- the places of slot i
 
-module _ (h : Header) (codes scales codes2 scales2 : List ℕ) (i : ℕ) (v : Item) (ok : Codable h (data_in codes scales codes2 scales2) i v) where
-  abbrev a : Arrays
-  a = data_in codes scales codes2 scales2
-
+module _ (h : Header) (a : Arrays) (i : ℕ) (v : Item) (ok : Codable h a i v) where
   abbrev size : ℕ
   size = block_size h
 
@@ -115,26 +112,22 @@ module _ (h : Header) (codes scales codes2 scales2 : List ℕ) (i : ℕ) (v : It
   abbrev put_part : ℕ → List ℕ → List ℕ → List ℕ
   put_part b xs ys = put_mid (i * b) (i * b + b - i * b) xs ys
 
-  module _ (b : ℕ) (is : b ≡ size) where
-    pub place_end : i * b + b ≤ length codes
-    place_end = rw is (omega (arith, suc-mul i size, ok.codes))
+  ends : i * size + size ≤ length a.codes
+  ends = omega (arith, suc-mul i size, ok.codes)
 
-    pub place-end2 : h.residual ≡ true → i * b + b ≤ length codes2
-    place-end2 e = rw is (omega (arith, suc-mul i size, ok.codes2 e))
-
-  ends : i * size + size ≤ length codes
-  ends = place_end size refl
+  ends2 : h.residual ≡ true → i * size + size ≤ length a.codes2
+  ends2 e = omega (arith, suc-mul i size, ok.codes2 e)
 
   part-block : (xs : List ℕ) → i * size + size ≤ length xs → part size xs ≡ block_at size i xs
   part-block xs l = ap (λ (k : ℕ). take k (drop (i * size) xs)) {x = i * size + size - i * size} {y = size} (omega arith) ∙ sym (block-there size i xs l)
 
   encodes : (block2 : List ℕ) → (h.residual ≡ true → length block2 ≡ size) →
-      encodable h (length (table_of h).boundaries) (length v.vector) (length (block_at size i codes)) (length block2) ≡ true
+      encodable h (length (table_of h).boundaries) (length v.vector) (length (block_at size i a.codes)) (length block2) ≡ true
   encodes block2 e =
       let r = ok.header in
       let most = padded-most h.working_dim (working-most h r) in
-      let long = length-block size i codes ends in
-      is-encodable h (length (table_of h).boundaries) (length v.vector) (length (block_at size i codes)) (length block2)
+      let long = length-block size i a.codes ends in
+      is-encodable h (length (table_of h).boundaries) (length v.vector) (length (block_at size i a.codes)) (length block2)
       (record {
         rotates = record { some = working-some h r; most = working-most h r; has = ok.entries; room = most };
         first = record { width = record { some = omega (arith, (wide h r).0); most = omega (arith, (wide h r).1) }; table = few-boundaries h r; most = most; size = long };
@@ -149,26 +142,26 @@ module _ (h : Header) (codes scales codes2 scales2 : List ℕ) (i : ℕ) (v : It
   abbrev code : Bool → Code
   code fresh = recoded h fresh old v
 
-  module _ (fresh r : Bool) (e : h.residual ≡ r) (block2 : List ℕ) (f : r ≡ true → block2 ≡ block_at size i codes2) where
-    coded : placed (encoded h (spares_after fresh h.bits (padded h) (block_at size i codes) block2) v) block2 ≡ placed (code fresh) block2
+  module _ (fresh r : Bool) (e : h.residual ≡ r) (block2 : List ℕ) (f : r ≡ true → block2 ≡ block_at size i a.codes2) where
+    coded : placed (encoded h (spares_after fresh h.bits (padded h) (block_at size i a.codes) block2) v) block2 ≡ placed (code fresh) block2
     unfolding recoded Coded.encoded_by_table spare_after slot_at
     coded = go fresh r e f
       where
-        go : (fresh r : Bool) → h.residual ≡ r → (r ≡ true → block2 ≡ block_at size i codes2) →
-            placed (encoded h (spares_after fresh h.bits (padded h) (block_at size i codes) block2) v) block2 ≡ placed (recoded h fresh (slot_at h a i).code v) block2
+        go : (fresh r : Bool) → h.residual ≡ r → (r ≡ true → block2 ≡ block_at size i a.codes2) →
+            placed (encoded h (spares_after fresh h.bits (padded h) (block_at size i a.codes) block2) v) block2 ≡ placed (recoded h fresh (slot_at h a i).code v) block2
         go true r e f = refl
         go false true e f = rw (e, f refl)
         go false false e f = rw e
 
-    into : encoded_into (table_of h) h fresh v (block_at size i codes) block2 ≡ placed (code fresh) block2
+    into : encoded_into (table_of h) h fresh v (block_at size i a.codes) block2 ≡ placed (code fresh) block2
     unfolding encoded_into
-    into = rw (encodes block2 (λ t. ap length (f (sym e ∙ t)) ∙ length-block size i codes2 (place-end2 size refl t))) coded
+    into = rw (encodes block2 (λ t. ap length (f (sym e ∙ t)) ∙ length-block size i a.codes2 (ends2 t))) coded
 
   -- both stages over the places of the slot, or the first alone
   abbrev put_stages : Bool → Stages → Arrays
   put_stages both t =
-      data_in (splice (i * size) t.first.block codes) (set scales i t.first.scale)
-      (cond both (splice (i * size) t.second.block codes2) codes2) (cond both (set scales2 i t.second.scale) scales2)
+      with_codes a (splice (i * size) t.first.block a.codes) (set a.scales i t.first.scale)
+      (cond both (splice (i * size) t.second.block a.codes2) a.codes2) (cond both (set a.scales2 i t.second.scale) a.scales2)
 
   put-stages : (fresh r : Bool) → h.residual ≡ r → (block2 : List ℕ) → put_stages r (placed (code fresh) block2) ≡ put_code h a fresh i v
   unfolding recoded Coded.encoded_by_table put_code put_slot
@@ -190,38 +183,44 @@ module _ (h : Header) (codes scales codes2 scales2 : List ℕ) (i : ℕ) (v : It
         go none p = absurd (let z : ◌≡◌ {A = ℕ} 0 1 = cc in omega arith)
         go (some g) p = cc
 
-    second_plain : h.residual ≡ false → (placed (code fresh) block2).second.block ≡ block2
-    unfolding recoded Coded.encoded_by_table
-    second_plain e = rw e
-
   -- ---- the laws
 
   module _ (fresh : Bool) (g : Scales) (block block2 : List ℕ) where
-    residual-at : h.residual ≡ true → stages g block block2 ≡ encoded_into (table_of h) h fresh v (part size codes) (part size codes2) →
-        data_in (put_part size codes block) (set scales i g.scale) (put_part size codes2 block2) (set scales2 i g.scale2) ≡ put_code h a fresh i v
+    residual-at : h.residual ≡ true → stages g block block2 ≡ encoded_into (table_of h) h fresh v (part size a.codes) (part size a.codes2) →
+        with_codes a (put_part size a.codes block) (set a.scales i g.scale) (put_part size a.codes2 block2) (set a.scales2 i g.scale2) ≡ put_code h a fresh i v
     residual-at e s =
-        let b2 = block_at size i codes2 in
+        let b2 = block_at size i a.codes2 in
         let t : stages g block block2 ≡ placed (code fresh) b2 =
-        s ∙ (λ j. encoded_into (table_of h) h fresh v (part-block codes ends j) (part-block codes2 (place-end2 size refl e) j)) ∙ into fresh true e b2 (λ _. refl) in
-        let one = mid-splice (i * size) size codes block (ap (λ (u : Stages). length u.first.block) t ∙ first-size fresh b2) in
-        let two = mid-splice (i * size) size codes2 block2 (ap (λ (u : Stages). length u.second.block) t ∙ second-size fresh b2 e) in
-        (λ j. data_in (one j) (set scales i g.scale) (two j) (set scales2 i g.scale2)) ∙ ap (put_stages true) t ∙ put-stages fresh true e b2
+        s ∙ (λ j. encoded_into (table_of h) h fresh v (part-block a.codes ends j) (part-block a.codes2 (ends2 e) j)) ∙ into fresh true e b2 (λ _. refl) in
+        let one = mid-splice (i * size) size a.codes block (ap (λ (u : Stages). length u.first.block) t ∙ first-size fresh b2) in
+        let two = mid-splice (i * size) size a.codes2 block2 (ap (λ (u : Stages). length u.second.block) t ∙ second-size fresh b2 e) in
+        (λ j. with_codes a (one j) (set a.scales i g.scale) (two j) (set a.scales2 i g.scale2)) ∙ ap (put_stages true) t ∙ put-stages fresh true e b2
 
-    plain_at : h.residual ≡ false → stages g block block2 ≡ encoded_into (table_of h) h fresh v (part size codes) [] →
-        data_in (put_part size codes block) (set scales i g.scale) (block2 ++ codes2) scales2 ≡ put_code h a fresh i v
+    plain_at : h.residual ≡ false → stages g block block2 ≡ encoded_into (table_of h) h fresh v (part size a.codes) [] →
+        with_codes a (put_part size a.codes block) (set a.scales i g.scale) a.codes2 a.scales2 ≡ put_code h a fresh i v
     plain_at e s =
         let t : stages g block block2 ≡ placed (code fresh) [] =
-        s ∙ ap (λ (b : List ℕ). encoded_into (table_of h) h fresh v b []) (part-block codes ends) ∙ into fresh false e [] (λ f. absurd (subst T (sym f) tt)) in
-        let one = mid-splice (i * size) size codes block (ap (λ (u : Stages). length u.first.block) t ∙ first-size fresh []) in
-        let none_lent : block2 ≡ [] = ap (λ (u : Stages). u.second.block) t ∙ second_plain fresh [] e in
-        (λ j. data_in (one j) (set scales i g.scale) (none_lent j ++ codes2) scales2) ∙ ap (put_stages false) t ∙ put-stages fresh false e []
+        s ∙ ap (λ (b : List ℕ). encoded_into (table_of h) h fresh v b []) (part-block a.codes ends) ∙ into fresh false e [] (λ f. absurd (subst T (sym f) tt)) in
+        let one = mid-splice (i * size) size a.codes block (ap (λ (u : Stages). length u.first.block) t ∙ first-size fresh []) in
+        (λ j. with_codes a (one j) (set a.scales i g.scale) a.codes2 a.scales2) ∙ ap (put_stages false) t ∙ put-stages fresh false e []
 
-    -- what the program stores, for the size b that it works out
-    module _ (b : ℕ) (is : b ≡ size) where
-      pub put-residual : h.residual ≡ true → stages g block block2 ≡ encoded_into (table_of h) h fresh v (part b codes) (part b codes2) →
-          data_in (put_part b codes block) (set scales i g.scale) (put_part b codes2 block2) (set scales2 i g.scale2) ≡ put_code h a fresh i v
-      put-residual e s = rw is (residual-at e (rw is at s))
+  -- ---- as the program meets it, b being the size that it works out
 
-      pub put-plain : h.residual ≡ false → stages g block block2 ≡ encoded_into (table_of h) h fresh v (part b codes) [] →
-          data_in (put_part b codes block) (set scales i g.scale) (block2 ++ codes2) scales2 ≡ put_code h a fresh i v
-      put-plain e s = rw is (plain_at e (rw is at s))
+  module _ (b : ℕ) (w : b ≡ at_width h.bits (block_size h)) where
+    is : b ≡ size
+    is = size_is h ok.header b w
+
+    pub place_end : i * b + b ≤ length a.codes
+    place_end = rw is ends
+
+    pub place-end2 : h.residual ≡ true → i * b + b ≤ length a.codes2
+    place-end2 e = rw is (ends2 e)
+
+    module _ (fresh : Bool) (g : Scales) (block block2 : List ℕ) where
+      pub put-residual : h.residual ≡ true → stages g block block2 ≡ encoded_into (table_of h) h fresh v (part b a.codes) (part b a.codes2) →
+          with_codes a (put_part b a.codes block) (set a.scales i g.scale) (put_part b a.codes2 block2) (set a.scales2 i g.scale2) ≡ put_code h a fresh i v
+      put-residual e s = rw is (residual-at fresh g block block2 e (rw is at s))
+
+      pub put-plain : h.residual ≡ false → stages g block block2 ≡ encoded_into (table_of h) h fresh v (part b a.codes) [] →
+          with_codes a (put_part b a.codes block) (set a.scales i g.scale) a.codes2 a.scales2 ≡ put_code h a fresh i v
+      put-plain e s = rw is (plain_at fresh g block block2 e (rw is at s))

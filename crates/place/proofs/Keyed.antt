@@ -1,9 +1,11 @@
 -- The three calls: which slot they write, by the scan for the key.
 use mathlib.Core.Path.{◌≡◌, refl, sym, ap, ◌∙◌}
-use mathlib.Core.Bool.{Bool, true, false, cond}
+use mathlib.Core.Bool.{Bool, true, false}
 use mathlib.Core.List.{map}
-use mathlib.Core.Option.{Option, none, some}
-use Prim.Native.Nat.{ℕ, ◌≤◌, ◌<◌}
+use mathlib.Core.Option as Found
+use mathlib.Core.Option.{none, some}
+use Rattle.std.specs.Prelude.{Option, Some, None}
+use Prim.Native.Nat.{ℕ, suc, ◌≤◌, ◌<◌}
 use native.Mathlib.Omega.{arith}
 use native.Mathlib.Decide.{dec_lt}
 use borrow.Author.Tests.{eq-eqb, ne_eqb}
@@ -12,32 +14,31 @@ use Rattle.lists.proofs.Laws.{length-tab}
 use Rattle.lists.proofs.Keep.{count-length}
 use Rattle.lists.specs.Lists.{below}
 use Rattle.encode.specs.Coded.{fault}
+use Rattle.refusal.specs.declared.Refusal.{Refusal}
+use Rattle.refusal.specs.Refusal.{number_of}
+use Rattle.refusal.proofs.Numbers.{above_0}
 use Rattle.index.specs.declared.Index.{Index}
 use Rattle.index.specs.Arrays.{Arrays}
-use Rattle.index.specs.State.{keyed, mark_of, header_of, capacity, slot_at, state_of}
+use Rattle.index.specs.State.{keyed, position, header_of, capacity, slot_at, state_of}
 use Rattle.index.specs.Fit.{fit}
 use Rattle.index.specs.Step.{Item, add, add_keyed, add_multi, live_from, holds_at, slot_holding, overwritten, refused, slot, Outcome, with_slots, guarded, appended, step}
 use Rattle.index.specs.Call.{Result, laid_over, call}
 use Rattle.index.specs.Answers.{result_of}
+use Rattle.index.proofs.Overlay.{roomy}
 use Rattle.index.proofs.Calls.{call-misfit, call_fits}
 use Rattle.slot_keys.specs.Has.{slot_has}
 use Rattle.held.specs.Held.{held_count, slot_holds, held_slot}
 use Rattle.held.proofs.Value.{mark-holds_at, held_by_lem, slot-found, slot-missing, missing-end, found-holds, only-slot}
 use Rattle.place.specs.declared.Adding.{Adding}
 use Rattle.place.specs.declared.Spot.{Spot}
-use Rattle.place.specs.Place.{refusal}
-use Rattle.place.specs.Adding.{op_of, spot, spot_of}
-use Rattle.place.proofs.Calls.{Accepted, accepted, few-slots, unless_refused, refused_as, wrote, refuse-misfit}
+use Rattle.place.specs.Place.{put_code, put_mark, Markable, after_add, refusal}
+use Rattle.place.specs.Adding.{op_of, spot, spot_of, mark_for, mark_of_spot}
+use Rattle.place.proofs.Calls.{Accepted, accepted, few-slots, unless_refused, refused_as, wrote, both-put, refuse-misfit}
 use Rattle.place.proofs.Append.{append-fits}
 use Rattle.place.proofs.Overwrite.{overwrite-fits}
 
--- what a slot without a key holds, and how many slots a key has
-marked : (w : Adding) (x : Index) (a : Arrays) → let s = spot_of w a.keys a.keyed a.held x.n in cond s.has_key s.position 0 ≡ s.position
-marked Adding.Unkeyed x a = refl
-marked (Adding.Keyed k) x a = refl
-marked (Adding.Multi k) x a = refl
-
-spot-low : (w : Adding) (x : Index) (a : Arrays) → (spot_of w a.keys a.keyed a.held x.n).position ≤ x.n
+-- how many slots a key has
+spot-low : (w : Adding) (x : Index) (a : Arrays) → position (mark_of_spot (spot_of w a x.n)) ≤ x.n
 spot-low Adding.Unkeyed x a = omega arith
 spot-low (Adding.Keyed k) x a = omega arith
 spot-low (Adding.Multi k) x a = omega (arith, count-length (slot_has a.keys a.keyed k) (below x.n), length-tab (λ (i : ℕ). i) x.n)
@@ -49,20 +50,20 @@ module _ (x : Index) (a : Arrays) (v : Item) where
 
   module _ (e : fit x a ≡ true) where
     -- behind the slots in use
-    behind : (k : ℕ) (on : Bool) (p : ℕ) (n : ℕ) → n ≡ x.n →
-        puts (spot n k on p) (eqb n x.n) ≡ laid_over a (appended (capacity (header_of x) a) (state_of x a) (mark_of 1 on k p) v)
-    behind k on p n is =
-        ap (puts (spot n k on p)) (eq-eqb n x.n is) ∙ ap (λ (i : ℕ). puts (spot i k on p) true) is ∙ append-fits x a k on p v e
+    behind : (k : Option (ℕ × ℕ)) (n : ℕ) → n ≡ x.n →
+        puts (spot n k) (eqb n x.n) ≡ laid_over a (appended (capacity (header_of x) a) (state_of x a) (mark_for k) v)
+    behind k n is =
+        ap (puts (spot n k)) (eq-eqb n x.n is) ∙ ap (λ (i : ℕ). puts (spot i k) true) is ∙ append-fits x a k v e
 
-    multi-fits : (j : ℕ) → puts (spot x.n j true (held_count a.keys a.keyed x.n j)) (eqb x.n x.n) ≡ call x a (add_multi j v)
+    multi-fits : (j : ℕ) → puts (spot x.n (Some (j, held_count a.keys a.keyed x.n j))) (eqb x.n x.n) ≡ call x a (add_multi j v)
     unfolding step
     multi-fits j =
-        behind j true (held_count a.keys a.keyed x.n j) x.n refl
+        behind (Some (j, held_count a.keys a.keyed x.n j)) x.n refl
         ∙ ap (λ (q : ℕ). laid_over a (appended (capacity (header_of x) a) (state_of x a) (keyed j q) v)) (sym (held_by_lem x a e j)) ∙ sym (call_fits x a (add_multi j v) e)
 
-    add-fits : puts (spot x.n 0 false 0) (eqb x.n x.n) ≡ call x a (add v)
+    add-fits : puts (spot x.n None) (eqb x.n x.n) ≡ call x a (add v)
     unfolding step
-    add-fits = behind 0 false 0 x.n refl ∙ sym (call_fits x a (add v) e)
+    add-fits = behind None x.n refl ∙ sym (call_fits x a (add v) e)
 
     module _ (j : ℕ) where
       -- the slot that holds position 0 of the key
@@ -70,7 +71,7 @@ module _ (x : Index) (a : Arrays) (v : Item) where
       at = held_slot a.keys a.keyed a.held x.n j 0
 
       -- the step, by what the scan for it finds
-      abbrev step_if : Option ℕ → Outcome
+      abbrev step_if : Found.Option ℕ → Outcome
       step_if o =
           elim o [
             | none ↦ appended (capacity (header_of x) a) (state_of x a) (keyed j 0) v
@@ -90,61 +91,72 @@ module _ (x : Index) (a : Arrays) (v : Item) where
           go true q = absurd (ne (sym (only-slot x a e j 0 m k q)))
           go false q = refl
 
-      over : at < x.n → puts (spot at j true 0) (eqb at x.n) ≡ call x a (add_keyed j v)
+      over : at < x.n → puts (spot at (Some (j, 0))) (eqb at x.n) ≡ call x a (add_keyed j v)
       unfolding state_of
       over l =
           let other : at ≡ x.n → ⊥ = λ q. omega (arith, l, q) in
-          ap (puts (spot at j true 0)) (ne_eqb at x.n other)
+          ap (puts (spot at (Some (j, 0)))) (ne_eqb at x.n other)
           ∙ overwrite-fits x a at v e l j (mark-holds_at x a e at l j 0 ∙ found-holds x a e j 0 l) others
           ∙ ap (laid_over a) (sym (ap step_if (slot-found x a e j 0 l)) ∙ step_is) ∙ sym (call_fits x a (add_keyed j v) e)
 
-      first : x.n ≤ at → puts (spot at j true 0) (eqb at x.n) ≡ call x a (add_keyed j v)
+      first : x.n ≤ at → puts (spot at (Some (j, 0))) (eqb at x.n) ≡ call x a (add_keyed j v)
       first l =
-          behind j true 0 at (missing-end x a e j 0 l)
+          behind (Some (j, 0)) at (missing-end x a e j 0 l)
           ∙ ap (laid_over a) (sym (ap step_if (slot-missing x a e j 0 l)) ∙ step_is) ∙ sym (call_fits x a (add_keyed j v) e)
 
-      keyed-fits : puts (spot at j true 0) (eqb at x.n) ≡ call x a (add_keyed j v)
+      keyed-fits : puts (spot at (Some (j, 0))) (eqb at x.n) ≡ call x a (add_keyed j v)
       keyed-fits = elim (dec_lt at x.n) [ yes l ↦ over l | no l ↦ first (omega (arith, l)) ]
 
   -- the three calls
   module _ (w : Adding) where
     abbrev place : Spot
-    place = spot_of w a.keys a.keyed a.held x.n
+    place = spot_of w a x.n
 
     pub put-call : puts place (eqb place.slot x.n) ≡ call x a (op_of w v)
     put-call = go (fit x a) refl w
       where
         go : (b : Bool) → fit x a ≡ b → (w : Adding) →
-            let s = spot_of w a.keys a.keyed a.held x.n in puts s (eqb s.slot x.n) ≡ call x a (op_of w v)
+            let s = spot_of w a x.n in puts s (eqb s.slot x.n) ≡ call x a (op_of w v)
         go true e Adding.Unkeyed = add-fits e
         go true e (Adding.Keyed j) = keyed-fits e j
         go true e (Adding.Multi j) = multi-fits e j
         go false e w =
-            let s = spot_of w a.keys a.keyed a.held x.n in
+            let s = spot_of w a x.n in
             sym (ap (λ (n : ℕ). unless_refused x a n (wrote x a s (eqb s.slot x.n) v)) (refuse-misfit x a s.slot v e))
             ∙ sym (call-misfit x a (op_of w v) e)
 
-    -- ---- as the program meets it
+    -- ---- as the program meets it, by a view of the arrays
 
-    module _ (s : Spot) (is : s ≡ place) (number : ℕ) (num : number ≡ refusal x a s.slot v) where
+    module _ (view : Arrays) (same : view ≡ a) (s : Spot) (found : s ≡ spot_of w view x.n) where
+      is : s ≡ place
+      is = found ∙ ap (λ (b : Arrays). spot_of w b x.n) same
+
       abbrev after : Result
       after = wrote x a s (eqb s.slot x.n) v
 
-      spot-call : puts s (eqb s.slot x.n) ≡ call x a (op_of w v)
-      spot-call = ap (λ (t : Spot). puts t (eqb t.slot x.n)) is ∙ put-call
+      answered : (n : ℕ) → n ≡ refusal x view s.slot v → unless_refused x a n after ≡ call x a (op_of w v)
+      answered n e =
+          (λ j. unless_refused x a ((e ∙ ap (λ (b : Arrays). refusal x b s.slot v) same) j) after)
+          ∙ ap (λ (t : Spot). puts t (eqb t.slot x.n)) is ∙ put-call
 
-      pub refused-call : (number ≡ 0 → ⊥) → result_of x a (refused number) ≡ call x a (op_of w v)
-      refused-call t = refused_as x a number after t ∙ ap (λ (n : ℕ). unless_refused x a n after) num ∙ spot-call
+      pub refused-call : (r : Refusal) → number_of r ≡ refusal x view s.slot v → result_of x a (refused (number_of r)) ≡ call x a (op_of w v)
+      refused-call r e = refused_as x a (number_of r) after (above_0 r) ∙ answered (number_of r) e
 
-      module _ (zero_is : number ≡ 0) where
+      module _ (none : 0 ≡ refusal x view s.slot v) where
         pub ok : Accepted x a s.slot v
-        ok = accepted x a s.slot v (sym num ∙ zero_is)
+        ok = accepted x a s.slot v (sym (none ∙ ap (λ (b : Arrays). refusal x b s.slot v) same))
 
-        pub position-low : s.position ≤ 65536
-        position-low = omega (arith, ap (λ (t : Spot). t.position) is, spot-low w x a, few-slots x a s.slot v ok)
+        position-low : position (mark_of_spot s) ≤ 65536
+        position-low = omega (arith, ap (λ (t : Spot). position (mark_of_spot t)) is, spot-low w x a, few-slots x a s.slot v ok)
 
-        pub spot-marked : cond s.has_key s.position 0 ≡ s.position
-        spot-marked = rw is (marked w x a)
+        pub markable : (fresh : Bool) → Markable (put_code (header_of x) a fresh s.slot v) s.slot (mark_of_spot s)
+        unfolding put_code
+        markable fresh =
+            let r = roomy (suc s.slot) (header_of x) a ok.below in
+            record { keys = r.keys; keyed = r.keyed; held = r.held; position = position-low }
 
-        pub accepted-call : (r : Result) → r ≡ after → r ≡ call x a (op_of w v)
-        accepted-call r e = e ∙ ap (λ (n : ℕ). unless_refused x a n after) (sym zero_is ∙ num) ∙ spot-call
+        pub accepted-call : (b c : Arrays) → b ≡ put_code (header_of x) a (eqb s.slot x.n) s.slot v → c ≡ put_mark b s.slot (mark_of_spot s) →
+            (y : Index) → y ≡ after_add x (eqb s.slot x.n) → result_of y c (slot s.slot) ≡ call x a (op_of w v)
+        accepted-call b c p q y e =
+            (λ j. result_of (e j) ((q ∙ ap (λ (d : Arrays). put_mark d s.slot (mark_of_spot s)) p ∙ both-put x a s (eqb s.slot x.n) v) j) (slot s.slot))
+            ∙ answered 0 none

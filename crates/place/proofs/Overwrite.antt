@@ -3,13 +3,15 @@ use mathlib.Core.Path.{◌≡◌, refl, sym, ap, subst, ◌∙◌}
 use mathlib.Core.Bool.{Bool, true, false, cond}
 use mathlib.Core.List.{List, [], ◌∷◌, map}
 use mathlib.Core.Option.{Option, none, some}
-use Prim.Native.Nat.{ℕ, zero, suc, ◌*◌, ◌<◌}
+use Rattle.std.specs.Prelude.{Some}
+use Prim.Native.Nat.{ℕ, zero, suc, ◌+◌, ◌*◌, ◌<◌}
 use native.Mathlib.Omega.{arith}
 use borrow.Author.Tests.{lt-leb, eqb-true, eqb-false, eq-eqb, ne_eqb}
 use lib.Dec.{T, eqb}
 use lib.ListN.{length, set, length-map}
+use Rattle.std.proofs.lemmas.List.{map-set}
 use Rattle.lists.specs.Lists.{tab, over, splice}
-use Rattle.lists.specs.Keep.{Each}
+use Rattle.lists.specs.Keep.{Each, count}
 use Rattle.lists.proofs.Laws.{length-tab, tab-ext}
 use Rattle.lists.proofs.Entries.{set-tab}
 use Rattle.lists.proofs.Tests as Tests
@@ -34,7 +36,7 @@ use Rattle.index.proofs.Fits.{fitting, overlay-self, fit-sound}
 use Rattle.place.specs.Place.{recoded, after_add, refusal}
 use Rattle.place.specs.Adding.{spot}
 use Rattle.place.proofs.Calls.{unless_refused, wrote}
-use Rattle.place.proofs.Blocks.{map-set, each_set, over-set, blocks-set, scales-set}
+use Rattle.place.proofs.Blocks.{each_set, over-set, blocks-set, scales-set}
 use Rattle.place.proofs.Append.{live-count, step-refused}
 
 -- a mark that holds a position of a key
@@ -193,16 +195,18 @@ module _ (x : Index) (a : Arrays) (i : ℕ) (v : Item) where
 
       -- its mark stays
       abbrev done : Result
-      done = wrote x a (spot i j true 0) false v
+      done = wrote x a (spot i (Some (j, 0))) false v
 
       placed : overlay a (map change slots) ≡ done.arrays
       unfolding recoded
       placed = ap (overlay a) changed ∙ arrays-are ∙ ap (λ (m : Mark). put_slot h a i (new_slot m new.code)) (marked j 0 (old i).mark mine)
 
       record_is : record_of (with_slots (state_of x a) false (map change slots)) ≡ after_add x false
-      unfolding record_of after_add state_of
+      unfolding record_of state_of
       record_is =
-          λ t. with_counts x ((length-map slots change ∙ many) t) ((count_map change live slots ∙ live-count x a e) t) false
+          let n : length (map change slots) ≡ x.n + 0 = omega (arith, length-map slots change, many) in
+          let lives : count live (map change slots) ≡ x.live + 0 = omega (arith, count_map change live slots, live-count x a e) in
+          λ t. with_counts x (n t) (lives t) false
 
       abbrev changes : Outcome
       changes = record { state = with_slots (state_of x a) false (map change slots); answer = slot i }

@@ -1,5 +1,7 @@
 -- Which slot an adding call writes, by the lent arrays of keys: 01, store.rs: "`add_keyed` on a key with several slots overwrites the first held."
-use Rattle.std.specs.Prelude.{Bool, true, false, List, ℕ}
+use Rattle.std.specs.Prelude.{ℕ, Option, Some, None}
+use Rattle.index.specs.Arrays.{Arrays}
+use Rattle.index.specs.State.{Mark, unkeyed, keyed}
 use Rattle.index.specs.Step.{Item, Op, add, add_keyed, add_multi}
 use Rattle.held.specs.Held.{held_count, held_slot}
 use Rattle.place.specs.declared.Adding.{Adding}
@@ -11,11 +13,20 @@ op_of Adding.Unkeyed v = add v
 op_of (Adding.Keyed k) v = add_keyed k v
 op_of (Adding.Multi k) v = add_multi k v
 
-abbrev pub spot : (slot key : ℕ) → (keyed : Bool) → (position : ℕ) → Spot
-spot i k on p = record { slot = i; key = k; has_key = on; position = p }
+-- the slot, its key and its position among the key's slots
+abbrev pub spot : (slot : ℕ) → (key : Option (ℕ × ℕ)) → Spot
+spot i k = record { slot = i; key = k }
 
--- n is the slot behind those in use; the word 0 stands for no key
-abbrev pub spot_of : Adding → (keys : List ℕ) → (keyed : List Bool) → (held : List ℕ) → (n : ℕ) → Spot
-spot_of Adding.Unkeyed keys keyed held n = spot n 0 false 0
-spot_of (Adding.Keyed k) keys keyed held n = spot (held_slot keys keyed held n k 0) k true 0
-spot_of (Adding.Multi k) keys keyed held n = spot n k true (held_count keys keyed n k)
+-- n is the slot behind those in use
+abbrev pub spot_of : Adding → Arrays → (n : ℕ) → Spot
+spot_of Adding.Unkeyed a n = spot n None
+spot_of (Adding.Keyed k) a n = spot (held_slot a.keys a.keyed a.held n k 0) (Some (k, 0))
+spot_of (Adding.Multi k) a n = spot n (Some (k, held_count a.keys a.keyed n k))
+
+-- the mark of the slot when it is written; the word 0 stands for no key
+abbrev pub mark_for : Option (ℕ × ℕ) → Mark
+mark_for None = unkeyed 0
+mark_for (Some k) = keyed k.0 k.1
+
+abbrev pub mark_of_spot : Spot → Mark
+mark_of_spot s = mark_for s.key

@@ -13,4 +13,4 @@ slice_bounds-encode-end-2 c = lent_fits (centroids_of _) _ _ c.centroids-centroi
 
 pub returns : goal.returns
 returns c =
-    c.encode.ensures ∙ by-tables _ _ c.levels-n.ensures _ _ c.boundaries-boundaries.ensures c.centroids-centroids.ensures _ _ _ _
+    rw c.header_of.ensures at c.encode.ensures ∙ by-tables _ _ c.levels-n.ensures _ _ c.boundaries-boundaries.ensures c.centroids-centroids.ensures _ _ _ _
