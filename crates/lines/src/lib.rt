@@ -29,6 +29,7 @@ impl Span {
 #[derive(Clone, Copy)]
 pub struct TooLong;
 
+#[derive(Drop)]
 pub struct Lines<'a, R> {
     pub reader: &'a mut R,
     pub buf: &'a mut [u8],
