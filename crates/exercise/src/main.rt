@@ -13,55 +13,20 @@
 //   dump                                                     the record and the arrays
 #![tactic(auto)]
 
-ghost use Rattle.std.specs.Prelude.{◌≡◌, cond, ◌-◌, ◌≤◌};
+ghost use Rattle.std.specs.Prelude.{◌≤◌};
 
 use index::{Added, Asked, Changed, Found, Held, Index, Keyed, Made, Written};
-use lines::Cursor;
+use lines::{Lines, Span, TooLong};
+use runs::InHex;
 use score::Scored;
 use std::io::Read;
-use values::{Number, Run};
-
-// ---- the program's arrays
-
-// As long as the longest line that is read, 140,000 bytes, and its newline.
-fn input() -> [u8; 140001] {
-    [0; 140001]
-}
-
-fn output() -> [u8; 140001] {
-    [0; 140001]
-}
-
-// As many entries as a line can hold.
-fn entries() -> [f32; 17500] {
-    [0.0; 17500]
-}
-
-fn code_bytes() -> [u8; 1048576] {
-    [0; 1048576]
-}
-
-fn words() -> [u32; 4096] {
-    [0; 4096]
-}
-
-fn key_words() -> [u64; 4096] {
-    [0; 4096]
-}
-
-fn flags() -> [bool; 4096] {
-    [false; 4096]
-}
-
-fn marks() -> [u8; 4096] {
-    [0; 4096]
-}
 
 fn main(rt: HostRuntime) {
     let mut reader = rt.stdin();
-    let mut buf = input();
-    let mut out = output();
-    run(&mut reader, &mut buf, &mut out);
+    // As long as the longest line that is read, 140,000 bytes, and its newline.
+    let mut buf = [0u8; 140001];
+    let mut out = [0u8; 140001];
+    run(&mut Lines::new(&mut reader, &mut buf), &mut out);
 }
 
 // How many elements of each array are lent.
@@ -77,8 +42,8 @@ struct Lengths {
     scales2: usize,
 }
 
-fn no_lengths() -> Lengths {
-    Lengths {
+impl Lengths {
+    const NONE: Lengths = Lengths {
         codes: 0,
         scales: 0,
         keys: 0,
@@ -87,7 +52,7 @@ fn no_lengths() -> Lengths {
         alive: 0,
         codes2: 0,
         scales2: 0,
-    }
+    };
 }
 
 // The record of `new(1, 0)` as if it had been made.
@@ -107,77 +72,72 @@ fn first_record() -> Index {
 // What is carried from line to line. `fresh` says that the line lent arrays anew.
 #[derive(Drop)]
 struct State {
-    cursor: Cursor,
     index: Index,
     lent: Lengths,
     fresh: bool,
 }
 
-// Answers all lines.
-fn run<R: Read>(reader: &mut R, buf: &mut [u8], out: &mut [u8]) {
+// Answers all lines. Nothing says that the input ends, so lines are counted, up to a number that no run uses up.
+fn run<R: Read>(lines: &mut Lines<'_, R>, out: &mut [u8]) {
     let mut state = State {
-        cursor: lines::next_line(reader, buf, lines::START),
         index: first_record(),
-        lent: no_lengths(),
+        lent: Lengths::NONE,
         fresh: false,
     };
-    while 0 < state.cursor.left {
-        let next = answer_with_fresh(reader, buf, out, state);
+    for _ in 0..u64::MAX {
+        let Some(next) = answer_with_fresh(lines, out, state) else {
+            break;
+        };
         state = next;
     }
 }
 
-// Answers lines over the lent parts of arrays that are all 0, up to the line that lends arrays anew.
-fn answer_with_fresh<R: Read>(reader: &mut R, buf: &mut [u8], out: &mut [u8], state: State) -> State
-    ensures { result.cursor.left ≤ state.cursor.left - 1 }
-{
+// A function, since a literal of so many bytes beside the slices of it is more than the check unfolds.
+fn code_bytes() -> [u8; 1048576] {
+    [0; 1048576]
+}
+
+// Answers lines over the lent parts of arrays that are all 0, up to the line that lends arrays anew; `None` where the input has ended.
+fn answer_with_fresh<R: Read>(
+    lines: &mut Lines<'_, R>,
+    out: &mut [u8],
+    state: State,
+) -> Option<State> {
     let mut codes = code_bytes();
-    let mut scales = words();
-    let mut keys = key_words();
-    let mut keyed = flags();
-    let mut held = words();
-    let mut alive = marks();
+    let mut scales = [0u32; 4096];
+    let mut keys = [0u64; 4096];
+    let mut keyed = [false; 4096];
+    let mut held = [0u32; 4096];
+    let mut alive = [0u8; 4096];
     let mut codes2 = code_bytes();
-    let mut scales2 = words();
+    let mut scales2 = [0u32; 4096];
     let lent = state.lent;
-    let a = capped(lent.codes, 1048576);
-    let b = capped(lent.scales, 4096);
-    let c = capped(lent.keys, 4096);
-    let d = capped(lent.keyed, 4096);
-    let e = capped(lent.held, 4096);
-    let f = capped(lent.alive, 4096);
-    let g = capped(lent.codes2, 1048576);
-    let h = capped(lent.scales2, 4096);
+    let a = lent.codes.min(1048576);
+    let b = lent.scales.min(4096);
+    let c = lent.keys.min(4096);
+    let d = lent.keyed.min(4096);
+    let e = lent.held.min(4096);
+    let f = lent.alive.min(4096);
+    let g = lent.codes2.min(1048576);
+    let h = lent.scales2.min(4096);
     answer_lines(
-        reader,
-        buf,
+        lines,
         out,
-        &mut codes[0..a],
-        &mut scales[0..b],
-        &mut keys[0..c],
-        &mut keyed[0..d],
-        &mut held[0..e],
-        &mut alive[0..f],
-        &mut codes2[0..g],
-        &mut scales2[0..h],
+        &mut codes[..a],
+        &mut scales[..b],
+        &mut keys[..c],
+        &mut keyed[..d],
+        &mut held[..e],
+        &mut alive[..f],
+        &mut codes2[..g],
+        &mut scales2[..h],
         state,
     )
 }
 
-// How many bytes are left for these arrays: none once arrays were lent anew.
-fn left_for(fresh: bool, left: u64) -> u64
-    ensures { result ≡ cond fresh 0 left }
-{
-    if fresh {
-        return 0;
-    }
-    left
-}
-
-// Answers a line, and those after it up to one that lends arrays anew.
+// Answers lines up to the one that lends arrays anew.
 fn answer_lines<R: Read>(
-    reader: &mut R,
-    buf: &mut [u8],
+    lines: &mut Lines<'_, R>,
     out: &mut [u8],
     codes: &mut [u8],
     scales: &mut [u32],
@@ -188,25 +148,25 @@ fn answer_lines<R: Read>(
     codes2: &mut [u8],
     scales2: &mut [u32],
     first: State,
-) -> State
-    ensures { result.cursor.left ≤ first.cursor.left - 1 }
-{
+) -> Option<State> {
     let mut state = first;
-    let mut fresh = false;
-    while 0 < left_for(fresh, state.cursor.left) {
+    for _ in 0..u64::MAX {
+        let found = lines.next_line()?;
         let next = turn(
-            reader, buf, out, codes, scales, keys, keyed, held, alive, codes2, scales2, state,
+            lines, found, out, codes, scales, keys, keyed, held, alive, codes2, scales2, state,
         );
         state = next;
-        fresh = state.fresh;
+        if state.fresh {
+            return Some(state);
+        }
     }
-    state
+    None
 }
 
-// One line, answered, and the next one read.
+// Answers one line.
 fn turn<R: Read>(
-    reader: &mut R,
-    buf: &mut [u8],
+    lines: &Lines<'_, R>,
+    found: Result<Span, TooLong>,
     out: &mut [u8],
     codes: &mut [u8],
     scales: &mut [u32],
@@ -217,24 +177,26 @@ fn turn<R: Read>(
     codes2: &mut [u8],
     scales2: &mut [u32],
     state: State,
-) -> State
-    ensures { result.cursor.left ≤ state.cursor.left - 1 }
-{
-    let cursor = state.cursor;
+) -> State {
     let index = state.index;
-    let lent = state.lent;
-    let mut vector = entries();
-    let mut file = file_places();
-    let line = lines::line(buf, cursor);
-    let call = read_call(line, cursor.long, &mut vector, &mut file);
-    let parts = lengths_after(call, line, lent);
-    let n = capped(call.count, 17500);
-    let m = capped(call.count, 65536);
-    let query = &vector[0..n];
+    // As many entries as a line can hold.
+    let mut vector = [0.0f32; 17500];
+    let mut file = [BYTE_MARK; 65536];
+    let asked = match found {
+        Ok(line) => read_line(lines.bytes(line), state.lent, &mut vector, &mut file),
+        Err(TooLong) => Line {
+            call: Call::UNREADABLE,
+            lent: state.lent,
+        },
+    };
+    let call = asked.call;
+    let n = call.count.min(17500);
+    let m = call.count.min(65536);
+    let query = &vector[..n];
     let done = change(
         call,
         query,
-        &file[0..m],
+        &file[..m],
         codes,
         scales,
         keys,
@@ -249,269 +211,381 @@ fn turn<R: Read>(
         call, done, query, out, codes, scales, keys, keyed, held, alive, codes2, scales2, index,
     );
     print::print_line(out, replied.length);
-    let next = replied.index;
     State {
-        cursor: lines::next_line(reader, buf, cursor),
-        index: next,
-        lent: parts,
-        fresh: call.command == 0,
+        index: replied.index,
+        lent: asked.lent,
+        fresh: call.command == Command::Lend,
     }
-}
-
-fn capped(n: usize, most: usize) -> usize
-    ensures { (result ≤ n) × (result ≤ most) }
-{
-    if n < most {
-        return n;
-    }
-    most
 }
 
 // ---- what a line asks for
 
-// The number of a line's command, its numbers, and how many entries or bytes come after them; 0 for what the line hasn't.
+#[derive(Clone, Copy, PartialEq, Eq)]
+enum Array {
+    Codes,
+    Scales,
+    Keys,
+    Keyed,
+    Held,
+    Alive,
+    Codes2,
+    Scales2,
+}
+
+const ARRAYS: [(&[u8], Array); 8] = [
+    (b"codes", Array::Codes),
+    (b"scales", Array::Scales),
+    (b"keys", Array::Keys),
+    (b"keyed", Array::Keyed),
+    (b"held", Array::Held),
+    (b"alive", Array::Alive),
+    (b"codes2", Array::Codes2),
+    (b"scales2", Array::Scales2),
+];
+
+// A field of the record.
+#[derive(Clone, Copy, PartialEq, Eq)]
+enum Field {
+    Dim,
+    WorkingDim,
+    Seed,
+    Bits,
+    Residual,
+    N,
+    Live,
+    Cascade,
+}
+
+const FIELDS: [(&[u8], Field); 8] = [
+    (b"dim", Field::Dim),
+    (b"working_dim", Field::WorkingDim),
+    (b"seed", Field::Seed),
+    (b"bits", Field::Bits),
+    (b"residual", Field::Residual),
+    (b"n", Field::N),
+    (b"live", Field::Live),
+    (b"cascade", Field::Cascade),
+];
+
+impl Field {
+    // The greatest value that the field's type holds.
+    fn greatest(self) -> u64 {
+        match self {
+            Field::Bits => 0xFF,
+            Field::Residual | Field::Cascade => 1,
+            _ => u64::MAX,
+        }
+    }
+}
+
+// `Silent` is a line that asks nothing, `Unreadable` one that can't be read.
+#[derive(Clone, Copy, PartialEq, Eq)]
+enum Command {
+    Silent,
+    Unreadable,
+    Lend,
+    Set(Array),
+    Field(Field),
+    Dump,
+    New,
+    Working,
+    Residual,
+    Bits,
+    Enable,
+    Compact,
+    Relabel,
+    Remove,
+    RemoveAt,
+    KeyOf,
+    Contains,
+    SlotAt,
+    Add,
+    AddKeyed,
+    AddMulti,
+    Score,
+    Search,
+    SearchKeyed,
+    SearchCascade,
+    Length,
+    Write,
+    Read,
+}
+
+// The commands that one word names.
+const COMMANDS: [(&[u8], Command); 24] = [
+    (b"lend", Command::Lend),
+    (b"dump", Command::Dump),
+    (b"new", Command::New),
+    (b"working", Command::Working),
+    (b"residual", Command::Residual),
+    (b"bits", Command::Bits),
+    (b"enable", Command::Enable),
+    (b"compact", Command::Compact),
+    (b"relabel", Command::Relabel),
+    (b"remove", Command::Remove),
+    (b"remove_at", Command::RemoveAt),
+    (b"key_of", Command::KeyOf),
+    (b"contains", Command::Contains),
+    (b"slot_at", Command::SlotAt),
+    (b"add", Command::Add),
+    (b"add_keyed", Command::AddKeyed),
+    (b"add_multi", Command::AddMulti),
+    (b"score", Command::Score),
+    (b"search", Command::Search),
+    (b"search_keyed", Command::SearchKeyed),
+    (b"search_cascade", Command::SearchCascade),
+    (b"length", Command::Length),
+    (b"write", Command::Write),
+    (b"read", Command::Read),
+];
+
+impl Command {
+    // The command of a line: `set` and `field` with the name in the next field.
+    fn of(line: &[u8]) -> Option<Command> {
+        let word = text::field(line, 0);
+        let name = text::field(line, 1);
+        match word {
+            b"set" => {
+                let array = text::named(&ARRAYS, name)?;
+                Some(Command::Set(array))
+            }
+            b"field" => {
+                let field = text::named(&FIELDS, name)?;
+                Some(Command::Field(field))
+            }
+            _ => text::named(&COMMANDS, word),
+        }
+    }
+
+    // How many numbers a line of the command has.
+    fn number_count(self) -> usize
+        ensures { result ≤ 3 }
+    {
+        match self {
+            Command::Dump
+            | Command::Enable
+            | Command::Compact
+            | Command::Add
+            | Command::Length
+            | Command::Read => 0,
+            Command::Bits
+            | Command::Remove
+            | Command::KeyOf
+            | Command::Contains
+            | Command::AddKeyed
+            | Command::AddMulti
+            | Command::Score
+            | Command::Write => 1,
+            Command::New
+            | Command::Residual
+            | Command::Relabel
+            | Command::RemoveAt
+            | Command::SlotAt
+            | Command::Search
+            | Command::SearchKeyed => 2,
+            _ => 3,
+        }
+    }
+
+    // Whether a vector comes after them.
+    fn has_vector(self) -> bool {
+        matches!(
+            self,
+            Command::Add
+                | Command::AddKeyed
+                | Command::AddMulti
+                | Command::Score
+                | Command::Search
+                | Command::SearchKeyed
+                | Command::SearchCascade
+        )
+    }
+
+    // How many fields it has, the command's word among them.
+    fn field_total(self) -> usize {
+        if self.has_vector() || self == Command::Read {
+            return self.number_count() + 2;
+        }
+        self.number_count() + 1
+    }
+
+    // Which of the numbers says how many places are lent; 0 where none does.
+    fn places_number(self) -> usize {
+        match self {
+            Command::Write => 1,
+            Command::Search | Command::SearchKeyed => 2,
+            Command::SearchCascade => 3,
+            _ => 0,
+        }
+    }
+
+    // The greatest value of number i: a width is a u8, and the program has so many places for a file and for hits.
+    fn greatest(self, i: usize) -> u64 {
+        if self == Command::Bits {
+            return 0xFF;
+        }
+        if i != self.places_number() {
+            return u64::MAX;
+        }
+        if self == Command::Write { 65536 } else { 4096 }
+    }
+}
+
+// A line's command, its numbers, and how many entries or bytes come after them; 0 for what the line hasn't.
 #[derive(Clone, Copy)]
 struct Call {
-    command: usize,
+    command: Command,
     a: u64,
     b: u64,
     c: u64,
     count: usize,
 }
 
-// What a line asks for; its vector or its bytes are read into the lent places. A line that can't be read is one of no command, 26.
-fn read_call(line: &[u8], long: bool, vector: &mut [f32], file: &mut [u8]) -> Call {
-    let c = kind(line, long);
-    let run = read_run(line, c, vector, file);
-    let q = request_of(line, c);
-    let readable = q.ok && run.ok;
-    Call {
-        command: if readable { c } else { 26 },
-        a: q.a,
-        b: q.b,
-        c: q.c,
-        count: run.length,
+impl Call {
+    const SILENT: Call = Call {
+        command: Command::Silent,
+        a: 0,
+        b: 0,
+        c: 0,
+        count: 0,
+    };
+
+    const UNREADABLE: Call = Call {
+        command: Command::Unreadable,
+        a: 0,
+        b: 0,
+        c: 0,
+        count: 0,
+    };
+}
+
+// What a line asks for, and how many elements of each array are lent after it.
+#[derive(Clone, Copy)]
+struct Line {
+    call: Call,
+    lent: Lengths,
+}
+
+fn read_line(line: &[u8], lent: Lengths, vector: &mut [f32], file: &mut [u8]) -> Line {
+    let call = call_of(line, vector, file).unwrap_or(Call::UNREADABLE);
+    if call.command != Command::Lend {
+        return Line { call, lent };
     }
+    Line {
+        call,
+        lent: lengths_of(line).unwrap_or(lent),
+    }
+}
+
+// What a line that can be read asks for; its vector or its bytes are read into the lent places.
+fn call_of(line: &[u8], vector: &mut [f32], file: &mut [u8]) -> Option<Call> {
+    if text::is_silent(line) {
+        return Some(Call::SILENT);
+    }
+    let command = Command::of(line)?;
+    let count = read_run(line, command, vector, file)?;
+    let numbers = request_of(line, command)?;
+    Some(Call {
+        command,
+        a: numbers.a,
+        b: numbers.b,
+        c: numbers.c,
+        count,
+    })
 }
 
 // The vector or the bytes of a line.
-fn read_run(line: &[u8], c: usize, vector: &mut [f32], file: &mut [u8]) -> Run {
-    if has_vector(c) {
-        return values::vector_at(line, number_count(c) + 1, vector);
+fn read_run(line: &[u8], command: Command, vector: &mut [f32], file: &mut [u8]) -> Option<usize> {
+    if command.has_vector() {
+        return values::vector_at(line, command.number_count() + 1, vector);
     }
-    if c == 25 {
+    if command == Command::Read {
         return values::bytes_at(line, 1, file);
     }
-    Run {
-        ok: true,
-        length: 0,
-    }
+    Some(0)
 }
 
-// The number of a line's command; 26 where there is no such command, or the line is too long to be read, and 27 where nothing is asked.
-fn kind(line: &[u8], long: bool) -> usize {
-    if long {
-        return 26;
-    }
-    if text::is_silent(line) {
-        return 27;
-    }
-    command(text::field(line, 0))
-}
-
-// The number of a command: its place in this list.
-fn command(word: &[u8]) -> usize {
-    let words =
-        b"lend set field dump new working residual bits enable compact relabel remove remove_at key_of contains slot_at add add_keyed add_multi score search search_keyed search_cascade length write read";
-    text::word_number(words, word)
-}
-
-// Whether a line's numbers can be read, and they; 0 for one that it hasn't.
-#[derive(Drop)]
-struct Request {
-    ok: bool,
+// A line's numbers; 0 for one that it hasn't.
+#[derive(Clone, Copy)]
+struct Numbers {
     a: u64,
     b: u64,
     c: u64,
 }
 
-// The fields of `lend`, `set` and `field` are not all numbers of a call; a line of command 26 or 27 has none.
-fn request_of(line: &[u8], c: usize) -> Request {
-    match c {
-        0 => plain_request(are_lengths(line)),
-        1 => poke_of(line),
-        2 => field_of(line),
-        26 => plain_request(false),
-        27 => plain_request(true),
-        _ => numbers_of(line, c),
+// The fields of `lend`, `set` and `field` are not all numbers of a call.
+fn request_of(line: &[u8], command: Command) -> Option<Numbers> {
+    match command {
+        Command::Lend => {
+            lengths_of(line)?;
+            Some(Numbers { a: 0, b: 0, c: 0 })
+        }
+        Command::Set(_) => poke_of(line),
+        Command::Field(field) => field_value(line, field),
+        _ => numbers_of(line, command),
     }
-}
-
-fn plain_request(ok: bool) -> Request {
-    Request {
-        ok: ok,
-        a: 0,
-        b: 0,
-        c: 0,
-    }
-}
-
-// How many numbers a line of the command has.
-fn number_count(c: usize) -> usize
-    ensures { result ≤ 3 }
-{
-    match c {
-        3 | 8 | 9 | 16 | 23 | 25 => 0,
-        7 | 11 | 13 | 14 | 17 | 18 | 19 | 24 => 1,
-        4 | 6 | 10 | 12 | 15 | 20 | 21 => 2,
-        _ => 3,
-    }
-}
-
-// Whether a vector comes after them.
-fn has_vector(c: usize) -> bool {
-    15 < c && c < 23
-}
-
-// Whether a vector or a run of bytes does.
-fn has_run(c: usize) -> bool {
-    has_vector(c) || c == 25
-}
-
-// How many fields it has, the command's word among them.
-fn field_total(c: usize) -> usize {
-    if has_run(c) {
-        return number_count(c) + 2;
-    }
-    number_count(c) + 1
-}
-
-// Which of the numbers says how many places are lent; 0 where none does.
-fn places_number(c: usize) -> usize {
-    match c {
-        24 => 1,
-        20 | 21 => 2,
-        22 => 3,
-        _ => 0,
-    }
-}
-
-// The greatest value of number i: a width is a u8, and the program has so many places for a file and for hits.
-fn greatest(c: usize, i: usize) -> u64 {
-    if c == 7 {
-        return 0xFF;
-    }
-    if i != places_number(c) {
-        return u64::MAX;
-    }
-    if c == 24 {
-        return 65536;
-    }
-    4096
 }
 
 // Number i of a line, or 0 where it has no more than n.
-fn argument(line: &[u8], i: usize, n: usize, most: u64) -> Number {
+fn argument(line: &[u8], i: usize, n: usize, most: u64) -> Option<u64> {
     if n < i {
-        return Number { ok: true, value: 0 };
+        return Some(0);
     }
     values::number_at(line, i, most)
 }
 
-fn numbers_of(line: &[u8], c: usize) -> Request {
-    let n = number_count(c);
-    let x = argument(line, 1, n, greatest(c, 1));
-    let y = argument(line, 2, n, greatest(c, 2));
-    let z = argument(line, 3, n, greatest(c, 3));
-    Request {
-        ok: x.ok && y.ok && z.ok && text::field_count(line) == field_total(c),
-        a: x.value,
-        b: y.value,
-        c: z.value,
+fn numbers_of(line: &[u8], command: Command) -> Option<Numbers> {
+    if text::field_count(line) != command.field_total() {
+        return None;
     }
+    let n = command.number_count();
+    let a = argument(line, 1, n, command.greatest(1))?;
+    let b = argument(line, 2, n, command.greatest(2))?;
+    let c = argument(line, 3, n, command.greatest(3))?;
+    Some(Numbers { a, b, c })
 }
 
-fn array_number(name: &[u8]) -> usize {
-    text::word_number(b"codes scales keys keyed held alive codes2 scales2", name)
+// What `set` sets in the array: a place and a value.
+fn poke_of(line: &[u8]) -> Option<Numbers> {
+    if text::field_count(line) != 4 {
+        return None;
+    }
+    let a = values::number_at(line, 2, u64::MAX)?;
+    let b = values::number_at(line, 3, u64::MAX)?;
+    Some(Numbers { a, b, c: 0 })
 }
 
-// What `set` sets: the number of an array, a place and a value.
-fn poke_of(line: &[u8]) -> Request {
-    let array = array_number(text::field(line, 1));
-    let i = values::number_at(line, 2, u64::MAX);
-    let x = values::number_at(line, 3, u64::MAX);
-    Request {
-        ok: i.ok && x.ok && text::field_count(line) == 4 && array < 8,
-        a: array as u64,
-        b: i.value,
-        c: x.value,
+// What `field` sets: a value that the field's type holds.
+fn field_value(line: &[u8], field: Field) -> Option<Numbers> {
+    if text::field_count(line) != 3 {
+        return None;
     }
-}
-
-// What `field` sets: the number of a field, and a value that its type holds.
-fn field_of(line: &[u8]) -> Request {
-    let words = b"dim working_dim seed bits residual n live cascade";
-    let field = text::word_number(words, text::field(line, 1));
-    let x = values::number_at(line, 2, greatest_of(field));
-    Request {
-        ok: x.ok && text::field_count(line) == 3 && field < 8,
-        a: field as u64,
-        b: x.value,
-        c: 0,
-    }
-}
-
-// The greatest value that a field's type holds.
-fn greatest_of(field: usize) -> u64 {
-    match field {
-        3 => 0xFF,
-        4 | 7 => 1,
-        _ => u64::MAX,
-    }
+    let a = values::number_at(line, 2, field.greatest())?;
+    Some(Numbers { a, b: 0, c: 0 })
 }
 
 // ---- lending
 
-// The lent lengths after a line: those that it names, where it lends arrays anew.
-fn lengths_after(call: Call, line: &[u8], lent: Lengths) -> Lengths {
-    if call.command == 0 {
-        return lengths_of(line);
+// The line's length for each array, at most what the program holds.
+fn lengths_of(line: &[u8]) -> Option<Lengths> {
+    if text::field_count(line) != 9 {
+        return None;
     }
-    lent
+    Some(Lengths {
+        codes: length_at(line, 1, 1048576)?,
+        scales: length_at(line, 2, 4096)?,
+        keys: length_at(line, 3, 4096)?,
+        keyed: length_at(line, 4, 4096)?,
+        held: length_at(line, 5, 4096)?,
+        alive: length_at(line, 6, 4096)?,
+        codes2: length_at(line, 7, 1048576)?,
+        scales2: length_at(line, 8, 4096)?,
+    })
 }
 
-// Whether the line has a length for each array, at most what the program holds.
-fn are_lengths(line: &[u8]) -> bool {
-    let first = is_length(line, 1, 1048576)
-        && is_length(line, 2, 4096)
-        && is_length(line, 3, 4096)
-        && is_length(line, 4, 4096);
-    let last = is_length(line, 5, 4096)
-        && is_length(line, 6, 4096)
-        && is_length(line, 7, 1048576)
-        && is_length(line, 8, 4096);
-    first && last && text::field_count(line) == 9
-}
-
-fn is_length(line: &[u8], i: usize, most: u64) -> bool {
-    values::number_at(line, i, most).ok
-}
-
-fn length_at(line: &[u8], i: usize) -> usize {
-    values::number_at(line, i, u64::MAX).value as usize
-}
-
-fn lengths_of(line: &[u8]) -> Lengths {
-    Lengths {
-        codes: length_at(line, 1),
-        scales: length_at(line, 2),
-        keys: length_at(line, 3),
-        keyed: length_at(line, 4),
-        held: length_at(line, 5),
-        alive: length_at(line, 6),
-        codes2: length_at(line, 7),
-        scales2: length_at(line, 8),
-    }
+fn length_at(line: &[u8], i: usize, most: u64) -> Option<usize> {
+    let n = values::number_at(line, i, most)?;
+    Some(n as usize)
 }
 
 // ---- changes
@@ -541,27 +615,36 @@ fn change(
     scales2: &mut [u32],
     index: Index,
 ) -> Done {
-    let command = call.command;
-    match command {
-        1 => Done::Element(set_element(
-            codes, scales, keys, keyed, held, alive, codes2, scales2, call,
+    match call.command {
+        Command::Set(array) => Done::Element(set_element(
+            codes,
+            scales,
+            keys,
+            keyed,
+            held,
+            alive,
+            codes2,
+            scales2,
+            array,
+            call.a as usize,
+            call.b,
         )),
-        9 => Done::Record(compact::compact(
+        Command::Compact => Done::Record(compact::compact(
             index, codes, scales, keys, keyed, held, alive, codes2, scales2,
         )),
-        10 | 11 | 12 => Done::Marks(change_marks(
+        Command::Relabel | Command::Remove | Command::RemoveAt => Done::Marks(change_marks(
             call, codes, scales, keys, keyed, held, alive, codes2, scales2, index,
         )),
-        16 => Done::Slot(add::add(
+        Command::Add => Done::Slot(add::add(
             index, codes, scales, keys, keyed, held, alive, codes2, scales2, vector,
         )),
-        17 => Done::Slot(add_keyed::add_keyed(
+        Command::AddKeyed => Done::Slot(add_keyed::add_keyed(
             index, codes, scales, keys, keyed, held, alive, codes2, scales2, call.a, vector,
         )),
-        18 => Done::Slot(add_multi::add_keyed_multi(
+        Command::AddMulti => Done::Slot(add_multi::add_keyed_multi(
             index, codes, scales, keys, keyed, held, alive, codes2, scales2, call.a, vector,
         )),
-        25 => Done::Record(read::from_bytes(
+        Command::Read => Done::Record(read::from_bytes(
             codes, scales, keys, keyed, held, alive, codes2, scales2, file,
         )),
         _ => Done::Nothing,
@@ -581,12 +664,11 @@ fn change_marks(
     scales2: &[u32],
     index: Index,
 ) -> Changed {
-    let command = call.command;
-    match command {
-        10 => relabel::relabel(
+    match call.command {
+        Command::Relabel => relabel::relabel(
             index, codes, scales, keys, keyed, held, alive, codes2, scales2, call.a, call.b,
         ),
-        11 => removal::remove_keyed(
+        Command::Remove => removal::remove_keyed(
             index, codes, scales, keys, keyed, held, alive, codes2, scales2, call.a,
         ),
         _ => removal::remove_keyed_at(
@@ -615,61 +697,59 @@ fn set_element(
     alive: &mut [u8],
     codes2: &mut [u8],
     scales2: &mut [u32],
-    call: Call,
+    array: Array,
+    i: usize,
+    x: u64,
 ) -> bool {
-    let array = call.a;
-    let i = call.b as usize;
-    let x = call.c;
     match array {
-        0 => poke_byte(codes, i, x),
-        1 => poke_word(scales, i, x),
-        2 => poke_key(keys, i, x),
-        3 => poke_flag(keyed, i, x),
-        4 => poke_word(held, i, x),
-        5 => poke_byte(alive, i, x),
-        6 => poke_byte(codes2, i, x),
-        _ => poke_word(scales2, i, x),
+        Array::Codes => poke(codes, i, x),
+        Array::Scales => poke(scales, i, x),
+        Array::Keys => poke(keys, i, x),
+        Array::Keyed => poke(keyed, i, x),
+        Array::Held => poke(held, i, x),
+        Array::Alive => poke(alive, i, x),
+        Array::Codes2 => poke(codes2, i, x),
+        Array::Scales2 => poke(scales2, i, x),
     }
 }
 
-fn poke_byte(xs: &mut [u8], i: usize, x: u64) -> bool {
-    if xs.len() <= i {
-        return false;
-    }
-    if 0xFF < x {
-        return false;
-    }
-    xs[i] = x as u8;
-    true
+trait Element: Copy {
+    // The element that stands for the number, where there is one.
+    fn of_number(x: u64) -> Option<Self>;
 }
 
-fn poke_word(xs: &mut [u32], i: usize, x: u64) -> bool {
-    if xs.len() <= i {
-        return false;
+impl Element for u8 {
+    fn of_number(x: u64) -> Option<u8> {
+        u8::try_from(x).ok()
     }
-    if 0xFFFF_FFFF < x {
-        return false;
-    }
-    xs[i] = x as u32;
-    true
 }
 
-fn poke_key(xs: &mut [u64], i: usize, x: u64) -> bool {
-    if xs.len() <= i {
-        return false;
+impl Element for u32 {
+    fn of_number(x: u64) -> Option<u32> {
+        u32::try_from(x).ok()
     }
-    xs[i] = x;
-    true
 }
 
-fn poke_flag(xs: &mut [bool], i: usize, x: u64) -> bool {
+impl Element for u64 {
+    fn of_number(x: u64) -> Option<u64> {
+        Some(x)
+    }
+}
+
+impl Element for bool {
+    fn of_number(x: u64) -> Option<bool> {
+        if x <= 1 { Some(x == 1) } else { None }
+    }
+}
+
+fn poke<T: Element>(xs: &mut [T], i: usize, x: u64) -> bool {
+    let Some(element) = T::of_number(x) else {
+        return false;
+    };
     if xs.len() <= i {
         return false;
     }
-    if 1 < x {
-        return false;
-    }
-    xs[i] = x == 1;
+    xs[i] = element;
     true
 }
 
@@ -698,27 +778,26 @@ fn answer(
     scales2: &[u32],
     index: Index,
 ) -> Replied {
-    let command = call.command;
-    match command {
-        3 => Replied {
+    match call.command {
+        Command::Dump => Replied {
             index: index,
             length: dump(
                 out, codes, scales, keys, keyed, held, alive, codes2, scales2, index,
             ),
         },
-        20 | 22 => Replied {
+        Command::Search | Command::SearchCascade => Replied {
             index: index,
             length: list_slots(
                 call, vector, out, codes, scales, keys, keyed, held, alive, codes2, scales2, index,
             ),
         },
-        21 => Replied {
+        Command::SearchKeyed => Replied {
             index: index,
             length: list_keys(
                 call, vector, out, codes, scales, keys, keyed, held, alive, codes2, scales2, index,
             ),
         },
-        24 => Replied {
+        Command::Write => Replied {
             index: index,
             length: write_file(
                 call, out, codes, scales, keys, keyed, held, alive, codes2, scales2, index,
@@ -748,15 +827,15 @@ fn ask(
     scales2: &[u32],
     index: Index,
 ) -> Outcome {
-    let command = call.command;
-    match command {
-        4 | 5 | 6 | 7 | 8 => after_made(
-            make_or_set(
-                call, codes, scales, keys, keyed, held, alive, codes2, scales2, index,
+    match call.command {
+        Command::New | Command::Working | Command::Residual | Command::Bits | Command::Enable =>
+            after_made(
+                make_or_set(
+                    call, codes, scales, keys, keyed, held, alive, codes2, scales2, index,
+                ),
+                index,
             ),
-            index,
-        ),
-        13 => Outcome {
+        Command::KeyOf => Outcome {
             index: index,
             reply: of_key(keys::key_of(
                 index,
@@ -771,13 +850,13 @@ fn ask(
                 call.a as usize,
             )),
         },
-        14 => Outcome {
+        Command::Contains => Outcome {
             index: index,
             reply: of_asked(keys::contains_key(
                 index, codes, scales, keys, keyed, held, alive, codes2, scales2, call.a,
             )),
         },
-        15 => Outcome {
+        Command::SlotAt => Outcome {
             index: index,
             reply: of_held(keys::slot_at(
                 index,
@@ -793,7 +872,7 @@ fn ask(
                 call.b as usize,
             )),
         },
-        19 => Outcome {
+        Command::Score => Outcome {
             index: index,
             reply: of_score(score_slot::score(
                 index,
@@ -809,7 +888,7 @@ fn ask(
                 vector,
             )),
         },
-        23 => Outcome {
+        Command::Length => Outcome {
             index: index,
             reply: of_length(layout::file_length(
                 index, codes, scales, keys, keyed, held, alive, codes2, scales2,
@@ -832,8 +911,7 @@ fn make_or_set(
     scales2: &[u32],
     index: Index,
 ) -> Made {
-    let command = call.command;
-    if command == 4 {
+    if call.command == Command::New {
         return make::new(
             call.a as usize,
             call.b,
@@ -847,7 +925,7 @@ fn make_or_set(
             scales2,
         );
     }
-    if command == 5 {
+    if call.command == Command::Working {
         return make::with_working_dim(
             call.a as usize,
             call.b as usize,
@@ -862,7 +940,7 @@ fn make_or_set(
             scales2,
         );
     }
-    if command == 6 {
+    if call.command == Command::Residual {
         return make::with_residual(
             call.a as usize,
             call.b,
@@ -876,7 +954,7 @@ fn make_or_set(
             scales2,
         );
     }
-    if command == 7 {
+    if call.command == Command::Bits {
         return settings::set_bits(
             index,
             codes,
@@ -939,56 +1017,23 @@ fn of_length(length: Written) -> Reply {
 
 // ---- lists and files
 
-// Places for results. Each holds a mark, by which a change is seen.
-fn slot_places() -> [u32; 4096] {
-    [0xFFFF_FFFF; 4096]
-}
+// Places for results each hold a mark, by which a change is seen.
+const SLOT_MARK: u32 = 0xFFFF_FFFF;
 
-fn key_places() -> [u64; 4096] {
-    [0xFFFF_FFFF_FFFF_FFFF; 4096]
-}
+const KEY_MARK: u64 = 0xFFFF_FFFF_FFFF_FFFF;
 
-fn score_places() -> [f32; 4096] {
-    [1.0; 4096]
-}
+const SCORE_MARK: f32 = 1.0;
 
-fn file_places() -> [u8; 65536] {
-    [0xFF; 65536]
-}
+const BYTE_MARK: u8 = 0xFF;
 
-fn wide(x: u32) -> u64 {
-    x as u64
-}
-
-fn wide_byte(x: u8) -> u64 {
-    x as u64
-}
-
-// Slots as numbers of the size of keys.
-fn widen(slots: &[u32], numbers: &mut [u64]) {
-    let end = capped(slots.len(), numbers.len());
-    let mut i = 0;
-    while i < end {
-        numbers[i] = wide(slots[i]);
-        i += 1;
-    }
-}
-
-fn put_widened(
-    out: &mut [u8],
-    found: Found,
-    slots: &[u32],
-    numbers: &mut [u64],
-    scores: &[f32],
-) -> usize {
-    widen(slots, numbers);
-    put_found(out, found, numbers, 0xFFFF_FFFF, scores)
-}
-
+// The slots as numbers of the size of keys.
 fn put_slots(out: &mut [u8], found: Found, slots: &[u32], scores: &[f32]) -> usize {
-    let mut numbers = key_places();
-    let n = capped(slots.len(), 4096);
-    put_widened(out, found, slots, &mut numbers[0..n], scores)
+    let mut numbers = [0u64; 4096];
+    for (number, slot) in numbers.iter_mut().zip(slots) {
+        *number = *slot as u64;
+    }
+    let n = slots.len().min(4096);
+    put_found(out, found, &numbers[..n], SLOT_MARK as u64, scores)
 }
 
 fn list_slots(
@@ -1005,9 +1050,9 @@ fn list_slots(
     scales2: &[u32],
     index: Index,
 ) -> usize {
-    let mut slots = slot_places();
-    let mut scores = score_places();
-    let n = capped(places(call), 4096);
+    let mut slots = [SLOT_MARK; 4096];
+    let mut scores = [SCORE_MARK; 4096];
+    let n = places(call).min(4096);
     search_slots(
         call,
         vector,
@@ -1021,8 +1066,8 @@ fn list_slots(
         codes2,
         scales2,
         index,
-        &mut slots[0..n],
-        &mut scores[0..n],
+        &mut slots[..n],
+        &mut scores[..n],
     )
 }
 
@@ -1042,7 +1087,7 @@ fn search_slots(
     slots: &mut [u32],
     scores: &mut [f32],
 ) -> usize {
-    if call.command == 20 {
+    if call.command == Command::Search {
         let found = search::search(
             index,
             codes,
@@ -1093,9 +1138,9 @@ fn list_keys(
     scales2: &[u32],
     index: Index,
 ) -> usize {
-    let mut names = key_places();
-    let mut scores = score_places();
-    let n = capped(call.b as usize, 4096);
+    let mut names = [KEY_MARK; 4096];
+    let mut scores = [SCORE_MARK; 4096];
+    let n = (call.b as usize).min(4096);
     search_keys(
         call,
         vector,
@@ -1109,8 +1154,8 @@ fn list_keys(
         codes2,
         scales2,
         index,
-        &mut names[0..n],
-        &mut scores[0..n],
+        &mut names[..n],
+        &mut scores[..n],
     )
 }
 
@@ -1145,7 +1190,7 @@ fn search_keys(
         names,
         scores,
     );
-    put_found(out, found, names, 0xFFFF_FFFF_FFFF_FFFF, scores)
+    put_found(out, found, names, KEY_MARK, scores)
 }
 
 fn write_file(
@@ -1161,8 +1206,8 @@ fn write_file(
     scales2: &[u32],
     index: Index,
 ) -> usize {
-    let mut file = file_places();
-    let n = capped(call.a as usize, 65536);
+    let mut file = [BYTE_MARK; 65536];
+    let n = (call.a as usize).min(65536);
     write_into(
         out,
         codes,
@@ -1174,7 +1219,7 @@ fn write_file(
         codes2,
         scales2,
         index,
-        &mut file[0..n],
+        &mut file[..n],
     )
 }
 
@@ -1199,7 +1244,7 @@ fn write_into(
 
 // How many places a line of the command lends.
 fn places(call: Call) -> usize {
-    if call.command == 22 {
+    if call.command == Command::SearchCascade {
         return call.c as usize;
     }
     call.b as usize
@@ -1243,17 +1288,16 @@ fn after(call: Call, done: Done, index: Index) -> Outcome {
 
 // A line that no array has a part in.
 fn without_arrays(call: Call, index: Index) -> Outcome {
-    let command = call.command;
-    match command {
-        0 => Outcome {
+    match call.command {
+        Command::Lend => Outcome {
             index: index,
             reply: Reply::Ok,
         },
-        2 => Outcome {
-            index: with_field(index, call.a, call.b),
+        Command::Field(field) => Outcome {
+            index: with_field(index, field, call.a),
             reply: Reply::Ok,
         },
-        27 => Outcome {
+        Command::Silent => Outcome {
             index: index,
             reply: Reply::Silent,
         },
@@ -1264,17 +1308,17 @@ fn without_arrays(call: Call, index: Index) -> Outcome {
     }
 }
 
-fn with_field(index: Index, field: u64, x: u64) -> Index {
+fn with_field(index: Index, field: Field, x: u64) -> Index {
     let mut y = index;
     match field {
-        0 => y.dim = x as usize,
-        1 => y.working_dim = x as usize,
-        2 => y.seed = x,
-        3 => y.bits = low_byte(x),
-        4 => y.residual = x == 1,
-        5 => y.n = x as usize,
-        6 => y.live = x as usize,
-        _ => y.cascade = x == 1,
+        Field::Dim => y.dim = x as usize,
+        Field::WorkingDim => y.working_dim = x as usize,
+        Field::Seed => y.seed = x,
+        Field::Bits => y.bits = low_byte(x),
+        Field::Residual => y.residual = x == 1,
+        Field::N => y.n = x as usize,
+        Field::Live => y.live = x as usize,
+        Field::Cascade => y.cascade = x == 1,
     }
     y
 }
@@ -1390,36 +1434,15 @@ fn put_spilt(out: &mut [u8], kept: bool) -> usize {
 
 // Whether the places from n on hold their mark.
 fn numbers_kept(xs: &[u64], n: usize, mark: u64) -> bool {
-    let mut i = n;
-    while i < xs.len() {
-        if xs[i] != mark {
-            return false;
-        }
-        i += 1;
-    }
-    true
+    xs.iter().skip(n).all(|x| *x == mark)
 }
 
 fn scores_kept(xs: &[f32], n: usize) -> bool {
-    let mut i = n;
-    while i < xs.len() {
-        if pattern::to_bits(xs[i]) != 0x3F80_0000 {
-            return false;
-        }
-        i += 1;
-    }
-    true
+    xs.iter().skip(n).all(|x| *x == SCORE_MARK)
 }
 
 fn bytes_kept(xs: &[u8], n: usize) -> bool {
-    let mut i = n;
-    while i < xs.len() {
-        if xs[i] != 0xFF {
-            return false;
-        }
-        i += 1;
-    }
-    true
+    xs.iter().skip(n).all(|x| *x == BYTE_MARK)
 }
 
 fn put_hit(out: &mut [u8], at: usize, number: u64, score: f32) -> usize {
@@ -1430,12 +1453,9 @@ fn put_hit(out: &mut [u8], at: usize, number: u64, score: f32) -> usize {
 }
 
 fn put_hits(out: &mut [u8], at: usize, numbers: &[u64], scores: &[f32], n: usize) -> usize {
-    let end = capped(n, capped(numbers.len(), scores.len()));
     let mut next = print::put_bytes(out, at, b"list");
-    let mut i = 0;
-    while i < end {
-        next = put_hit(out, next, numbers[i], scores[i]);
-        i += 1;
+    for (number, score) in numbers.iter().zip(scores).take(n) {
+        next = put_hit(out, next, *number, *score);
     }
     next
 }
@@ -1465,8 +1485,7 @@ fn put_file(out: &mut [u8], written: Written, file: &[u8]) -> usize {
         Written::Bytes(n) => {
             let at = put_spilt(out, bytes_kept(file, n));
             let next = print::put_bytes(out, at, b"bytes ");
-            let end = capped(n, file.len());
-            runs::put_run(out, next, &file[0..end])
+            runs::put_run(out, next, &file[..n.min(file.len())])
         }
         Written::Refused(n) => {
             let at = put_spilt(out, bytes_kept(file, 0));
@@ -1498,17 +1517,17 @@ fn dump(
 }
 
 fn print_slots(out: &mut [u8], codes: &[u8], scales: &[u32], keys: &[u64], keyed: &[bool]) {
-    print_bytes(out, b" codes ", codes);
-    print_words(out, b" scales ", scales);
-    print_keys(out, b" keys ", keys);
-    print_flags(out, b" keyed ", keyed);
+    print_array(out, b" codes ", codes);
+    print_array(out, b" scales ", scales);
+    print_array(out, b" keys ", keys);
+    print_array(out, b" keyed ", keyed);
 }
 
 fn print_marks(out: &mut [u8], held: &[u32], alive: &[u8], codes2: &[u8], scales2: &[u32]) {
-    print_words(out, b" held ", held);
-    print_bytes(out, b" alive ", alive);
-    print_bytes(out, b" codes2 ", codes2);
-    print_words(out, b" scales2 ", scales2);
+    print_array(out, b" held ", held);
+    print_array(out, b" alive ", alive);
+    print_array(out, b" codes2 ", codes2);
+    print_array(out, b" scales2 ", scales2);
 }
 
 fn put_record(out: &mut [u8], index: Index) -> usize {
@@ -1544,46 +1563,11 @@ fn put_field(out: &mut [u8], at: usize, x: u64) -> usize {
 }
 
 // The name of an array and its elements, so many digits each; `-` where there is none.
-fn print_bytes(out: &mut [u8], name: &[u8], xs: &[u8]) {
+fn print_array<T: InHex + Copy>(out: &mut [u8], name: &[u8], xs: &[T]) {
     let mut at = put_name(out, name, xs.len());
-    let mut i = 0;
-    while i < xs.len() {
+    for x in xs {
         let next = make_room(out, at);
-        at = numerals::put_hex(out, next, wide_byte(xs[i]), 2);
-        i += 1;
-    }
-    flush(out, at);
-}
-
-fn print_words(out: &mut [u8], name: &[u8], xs: &[u32]) {
-    let mut at = put_name(out, name, xs.len());
-    let mut i = 0;
-    while i < xs.len() {
-        let next = make_room(out, at);
-        at = numerals::put_hex(out, next, wide(xs[i]), 8);
-        i += 1;
-    }
-    flush(out, at);
-}
-
-fn print_keys(out: &mut [u8], name: &[u8], xs: &[u64]) {
-    let mut at = put_name(out, name, xs.len());
-    let mut i = 0;
-    while i < xs.len() {
-        let next = make_room(out, at);
-        at = numerals::put_hex(out, next, xs[i], 16);
-        i += 1;
-    }
-    flush(out, at);
-}
-
-fn print_flags(out: &mut [u8], name: &[u8], xs: &[bool]) {
-    let mut at = put_name(out, name, xs.len());
-    let mut i = 0;
-    while i < xs.len() {
-        let next = make_room(out, at);
-        at = numerals::put_hex(out, next, xs[i] as u64, 1);
-        i += 1;
+        at = numerals::put_hex(out, next, x.number(), T::DIGITS);
     }
     flush(out, at);
 }
@@ -1598,8 +1582,7 @@ fn put_name(out: &mut [u8], name: &[u8], n: usize) -> usize {
 
 // Writes the first n bytes of out to standard output.
 fn flush(out: &[u8], n: usize) {
-    let end = capped(n, out.len());
-    io::write_all(1, &out[0..end]);
+    io::write_all(1, &out[..n.min(out.len())]);
 }
 
 // The place for another element, after what there is has been written out, if it is much.

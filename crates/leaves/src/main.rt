@@ -19,203 +19,190 @@
 // 65,536.) For an infinity it has those at p, p - 1 and p + 1, for a NaN the one at p. Patterns are counted modulo 2^32.
 #![tactic(auto)]
 
-ghost use Rattle.std.specs.Prelude.{◌<◌};
+ghost use Rattle.std.specs.Prelude.{◌≤◌, ◌<◌, IfSome};
 
+use lines::{Lines, TooLong};
 use rhdh::Rhdh;
 use signs::SignStream;
 use std::io::Read;
 
 fn main(rt: HostRuntime) {
     let mut reader = rt.stdin();
-    let mut buf = input();
-    let mut out = output();
-    run(&mut reader, &mut buf, &mut out);
-}
-
-// As long as the longest line that is read, 140,000 bytes, and its newline.
-fn input() -> [u8; 140001] {
-    [0; 140001]
-}
-
-// Long enough for the longest answer, that of `narrows`: 4,096 times 24 digits, and a newline.
-fn output() -> [u8; 131072] {
-    [0; 131072]
-}
-
-fn entries() -> [f32; 4096] {
-    [0.0; 4096]
+    // As long as the longest line that is read, 140,000 bytes, and its newline.
+    let mut buf = [0u8; 140001];
+    // Long enough for the longest answer, that of `narrows`: 4,096 times 24 digits, and a newline.
+    let mut out = [0u8; 131072];
+    run(&mut Lines::new(&mut reader, &mut buf), &mut out);
 }
 
 // Answers line after line.
-fn run<R: Read>(reader: &mut R, buf: &mut [u8], out: &mut [u8]) {
-    let mut cursor = lines::next_line(reader, buf, lines::START);
-    while 0 < cursor.left {
-        let n = answer(lines::line(buf, cursor), cursor.long, out);
+fn run<R: Read>(lines: &mut Lines<'_, R>, out: &mut [u8]) {
+    for _ in 0..u64::MAX {
+        let Some(found) = lines.next_line() else {
+            break;
+        };
+        let n = match found {
+            Ok(line) => answer(lines.bytes(line), out),
+            Err(TooLong) => put_unreadable(out),
+        };
         print::print_line(out, n);
-        cursor = lines::next_line(reader, buf, cursor);
     }
 }
 
-// Puts the answer to a line into out, and answers its length. A line too long can't be read.
-fn answer(line: &[u8], long: bool, out: &mut [u8]) -> usize {
-    if long {
-        return print::put_byte(out, 0, print::UNREADABLE);
-    }
+fn put_unreadable(out: &mut [u8]) -> usize {
+    print::put_byte(out, 0, print::UNREADABLE)
+}
+
+// Puts the answer to a line into out, and answers its length.
+fn answer(line: &[u8], out: &mut [u8]) -> usize {
     if text::is_silent(line) {
         return 0;
     }
-    let c = command(text::field(line, 0));
-    put_answer(out, line, c, numbers_of(line, c))
+    match put_answer(out, line) {
+        Some(n) => n,
+        None => put_unreadable(out),
+    }
 }
 
-fn command(word: &[u8]) -> usize {
-    let words =
-        b"half narrow sqrt padded levels quantize dequantize signs halves narrows fwht apply";
-    text::word_number(words, word)
+#[derive(Clone, Copy)]
+enum Command {
+    Half,
+    Narrow,
+    Sqrt,
+    Padded,
+    Levels,
+    Quantize,
+    Dequantize,
+    Signs,
+    Halves,
+    Narrows,
+    Fwht,
+    Apply,
 }
 
-fn put_answer(out: &mut [u8], line: &[u8], c: usize, x: Numbers) -> usize {
-    if !x.ok {
-        return print::put_byte(out, 0, print::UNREADABLE);
+const COMMANDS: [(&[u8], Command); 12] = [
+    (b"half", Command::Half),
+    (b"narrow", Command::Narrow),
+    (b"sqrt", Command::Sqrt),
+    (b"padded", Command::Padded),
+    (b"levels", Command::Levels),
+    (b"quantize", Command::Quantize),
+    (b"dequantize", Command::Dequantize),
+    (b"signs", Command::Signs),
+    (b"halves", Command::Halves),
+    (b"narrows", Command::Narrows),
+    (b"fwht", Command::Fwht),
+    (b"apply", Command::Apply),
+];
+
+// The answer to a line that can be read.
+fn put_answer(out: &mut [u8], line: &[u8]) -> Option<usize> {
+    match text::named(&COMMANDS, text::field(line, 0))? {
+        Command::Half => {
+            let h = one(line, 0xFFFF)?;
+            Some(put_pattern(out, half::f16_bits_to_f32(h as u16)))
+        }
+        Command::Narrow => {
+            let p = one(line, 0xFFFF_FFFF)?;
+            Some(numerals::put_hex(out, 0, narrow(p as u32), 4))
+        }
+        Command::Sqrt => {
+            let p = one(line, 0xFFFF_FFFF)?;
+            Some(put_float(out, sqrt::sqrt(pattern::from_bits(p as u32))))
+        }
+        Command::Padded => {
+            let dim = one(line, u64::MAX)?;
+            Some(put_number(out, padding::padded_dim(dim as usize) as u64))
+        }
+        Command::Levels => {
+            let width = one(line, 0xFF)?;
+            Some(put_number(out, lloyd::levels(width as u8) as u64))
+        }
+        Command::Quantize => {
+            let (width, p) = two(line, 3, 0xFF, 0xFFFF_FFFF)?;
+            let code = quantizer::quantize(pattern::from_bits(p as u32), width as u8);
+            Some(put_number(out, code as u64))
+        }
+        Command::Dequantize => {
+            let (width, code) = two(line, 3, 0xFF, 0xFF)?;
+            Some(put_float(out, dequantizer::dequantize(code as u8, width as u8)))
+        }
+        Command::Signs => {
+            let (seed, n) = two(line, 3, u64::MAX, 4096)?;
+            Some(put_signs(out, seed, n))
+        }
+        Command::Halves => {
+            let (from, to) = range(line)?;
+            Some(put_halves(out, from, to))
+        }
+        Command::Narrows => {
+            let (from, to) = range(line)?;
+            Some(put_narrows(out, from, to))
+        }
+        Command::Fwht => put_fwht(out, line),
+        Command::Apply => put_applied(out, line),
     }
-    if c < 7 {
-        let r = reply_to(c, x.a, x.b);
-        return numerals::put_hex(out, 0, r.value, r.width);
-    }
-    put_run(out, line, c, x)
 }
 
 // ---- the numbers of a line
 
-// Up to two numbers, where the line has what its command takes.
-#[derive(Drop)]
-struct Numbers {
-    ok: bool,
-    a: u64,
-    b: u64,
-}
-
-fn numbers_of(line: &[u8], c: usize) -> Numbers {
-    match c {
-        0 => one(line, 0xFFFF),
-        1 | 2 => one(line, 0xFFFF_FFFF),
-        3 => one(line, u64::MAX),
-        4 => one(line, 0xFF),
-        5 => two(line, 3, 0xFF, 0xFFFF_FFFF),
-        6 => two(line, 3, 0xFF, 0xFF),
-        7 => two(line, 3, u64::MAX, 4096),
-        8 | 9 => range(line),
-        10 => Numbers {
-            ok: text::field_count(line) == 2,
-            a: 0,
-            b: 0,
-        },
-        11 => two(line, 4, 4096, u64::MAX),
-        _ => no_numbers(),
-    }
-}
-
-fn no_numbers() -> Numbers {
-    Numbers {
-        ok: false,
-        a: 0,
-        b: 0,
-    }
-}
-
 // The one number of the line, at most `most`.
-fn one(line: &[u8], most: u64) -> Numbers {
-    let a = values::number_at(line, 1, most);
-    Numbers {
-        ok: a.ok && text::field_count(line) == 2,
-        a: a.value,
-        b: 0,
+fn one(line: &[u8], most: u64) -> Option<u64>
+    ensures { IfSome result (λ a. a ≤ most) }
+{
+    if text::field_count(line) != 2 {
+        return None;
     }
+    values::number_at(line, 1, most)
 }
 
 // The first two numbers of a line that has count fields.
-fn two(line: &[u8], count: usize, most_a: u64, most_b: u64) -> Numbers {
+fn two(line: &[u8], count: usize, most_a: u64, most_b: u64) -> Option<(u64, u64)>
+    ensures { IfSome result (λ x. (x.0 ≤ most_a) × (x.1 ≤ most_b)) }
+{
     if text::field_count(line) != count {
-        return no_numbers();
+        return None;
     }
-    let a = values::number_at(line, 1, most_a);
-    let b = values::number_at(line, 2, most_b);
-    Numbers {
-        ok: a.ok && b.ok,
-        a: a.value,
-        b: b.value,
-    }
+    let a = values::number_at(line, 1, most_a)?;
+    let b = values::number_at(line, 2, most_b)?;
+    Some((a, b))
 }
 
 // Two numbers of at most 65,536, the second at most 4,096 above the first and not below it.
-fn range(line: &[u8]) -> Numbers {
-    let x = two(line, 3, 0x10000, 0x10000);
-    if x.b < x.a {
-        return no_numbers();
+fn range(line: &[u8]) -> Option<(u64, u64)>
+    ensures { IfSome result (λ x. x.1 ≤ 65536) }
+{
+    let (from, to) = two(line, 3, 0x10000, 0x10000)?;
+    if from <= to && to - from <= 4096 {
+        Some((from, to))
+    } else {
+        None
     }
-    if 4096 < x.b - x.a {
-        return no_numbers();
-    }
-    x
 }
 
 // ---- commands that answer with one number
 
-// A number, and the fewest digits to print it with.
-#[derive(Drop)]
-struct Reply {
-    value: u64,
-    width: usize,
+fn put_number(out: &mut [u8], n: u64) -> usize {
+    numerals::put_hex(out, 0, n, 1)
 }
 
-fn reply_to(c: usize, a: u64, b: u64) -> Reply {
-    match c {
-        0 => shown(half::f16_bits_to_f32((a % 0x10000) as u16) as u64, 8),
-        1 => shown(narrow((a % 0x1_0000_0000) as u32), 4),
-        2 => shown_float(sqrt::sqrt(float(a))),
-        3 => shown(padding::padded_dim(a as usize) as u64, 1),
-        4 => shown(lloyd::levels((a % 0x100) as u8) as u64, 1),
-        5 => shown(quantizer::quantize(float(b), (a % 0x100) as u8) as u64, 1),
-        _ => shown_float(dequantizer::dequantize((b % 0x100) as u8, (a % 0x100) as u8)),
-    }
+fn put_pattern(out: &mut [u8], p: u32) -> usize {
+    numerals::put_hex(out, 0, p as u64, 8)
 }
 
-fn shown(value: u64, width: usize) -> Reply {
-    Reply {
-        value: value,
-        width: width,
-    }
-}
-
-fn shown_float(x: f32) -> Reply {
-    shown(pattern::to_bits(x) as u64, 8)
-}
-
-fn float(p: u64) -> f32 {
-    pattern::from_bits((p % 0x1_0000_0000) as u32)
+fn put_float(out: &mut [u8], x: f32) -> usize {
+    put_pattern(out, pattern::to_bits(x))
 }
 
 // ---- commands that answer with a run
 
-fn put_run(out: &mut [u8], line: &[u8], c: usize, x: Numbers) -> usize {
-    match c {
-        7 => put_signs(out, x.a, x.b),
-        8 => put_halves(out, x.a, x.b),
-        9 => put_narrows(out, x.a, x.b),
-        10 => put_transformed(out, line, 1, false, x),
-        _ => put_transformed(out, line, 3, true, x),
-    }
-}
-
 fn put_signs(out: &mut [u8], seed: u64, n: u64) -> usize {
     let mut stream = SignStream::new(seed);
     let mut at = 0;
-    let mut i = 0;
-    while i < n {
+    for _ in 0..n {
         let s = stream.next_sign();
         at = print::put_byte(out, at, sign_byte(s.sign));
         stream = s.stream;
-        i += 1;
     }
     at
 }
@@ -224,27 +211,22 @@ fn sign_byte(sign: f32) -> u8 {
     if sign < 0.0 { b'-' } else { b'+' }
 }
 
-fn put_halves(out: &mut [u8], from: u64, to: u64) -> usize {
+fn put_halves(out: &mut [u8], from: u64, to: u64) -> usize
+    requires { to ≤ 65536 }
+{
     let mut at = 0;
-    let mut h = from;
-    while h < to {
-        at = numerals::put_hex(
-            out,
-            at,
-            half::f16_bits_to_f32((h % 0x10000) as u16) as u64,
-            8,
-        );
-        h += 1;
+    for h in from..to {
+        at = numerals::put_hex(out, at, half::f16_bits_to_f32(h as u16) as u64, 8);
     }
     at
 }
 
-fn put_narrows(out: &mut [u8], from: u64, to: u64) -> usize {
+fn put_narrows(out: &mut [u8], from: u64, to: u64) -> usize
+    requires { to ≤ 65536 }
+{
     let mut at = 0;
-    let mut h = from;
-    while h < to {
-        at = put_narrows_of(out, at, (h % 0x10000) as u16);
-        h += 1;
+    for h in from..to {
+        at = put_narrows_of(out, at, h as u16);
     }
     at
 }
@@ -270,8 +252,8 @@ fn narrow(p: u32) -> u64
 
 // The halves at p, p - 1 and p + 1, as one number of twelve digits.
 fn around(p: u32) -> u64 {
-    let before = narrow(std::num::wrapping_sub_u32(p, 1));
-    let after = narrow(std::num::wrapping_add_u32(p, 1));
+    let before = narrow(p.wrapping_sub(1));
+    let after = narrow(p.wrapping_add(1));
     (narrow(p) * 65536 + before) * 65536 + after
 }
 
@@ -281,44 +263,37 @@ fn midpoint(h: u16) -> u32 {
     let p = half::f16_bits_to_f32(h);
     let magnitude = h % 0x8000;
     if magnitude == 0 {
-        return std::num::wrapping_add_u32(p, 0x3300_0000);
+        return p.wrapping_add(0x3300_0000);
     }
     if 0x7BFF <= magnitude {
-        return std::num::wrapping_add_u32(p, 0x1000);
+        return p.wrapping_add(0x1000);
     }
     let next = half::f16_bits_to_f32(h + 1);
     ((p as u64 + next as u64) / 2) as u32
 }
 
-// The vector in field i: rotated by a size and a seed, or only transformed.
-fn put_transformed(out: &mut [u8], line: &[u8], i: usize, rotated: bool, x: Numbers) -> usize {
-    let mut v = entries();
-    let y = values::vector_at(line, i, &mut v);
-    let n = y.length;
-    if !y.ok {
-        return print::put_byte(out, 0, print::UNREADABLE);
+// The vector of the line, transformed.
+fn put_fwht(out: &mut [u8], line: &[u8]) -> Option<usize> {
+    if text::field_count(line) != 2 {
+        return None;
     }
-    if rotated {
-        return put_rotated(out, Rhdh::new(x.a as usize, x.b), &v[0..n]);
-    }
-    put_fwht(out, &mut v[0..n])
+    let mut v = [0.0f32; 4096];
+    let n = values::vector_at(line, 1, &mut v)?;
+    fwht::fwht(&mut v[..n]);
+    Some(runs::put_vector(out, 0, &v[..n]))
 }
 
-fn put_fwht(out: &mut [u8], v: &mut [f32]) -> usize {
-    fwht::fwht(v);
-    runs::put_vector(out, 0, v)
-}
-
-fn put_rotated(out: &mut [u8], rotation: Rhdh, v: &[f32]) -> usize {
+// The vector of the line, rotated by its size and its seed.
+fn put_applied(out: &mut [u8], line: &[u8]) -> Option<usize> {
+    let (dim, seed) = two(line, 4, 4096, u64::MAX)?;
+    let mut v = [0.0f32; 4096];
+    let n = values::vector_at(line, 3, &mut v)?;
+    let rotation = Rhdh::new(dim as usize, seed);
     let padded = rotation.padded;
     if 4096 < padded {
-        return print::put_byte(out, 0, print::UNREADABLE);
+        return None;
     }
-    let mut w = entries();
-    put_applied(out, rotation, v, &mut w[0..padded])
-}
-
-fn put_applied(out: &mut [u8], rotation: Rhdh, v: &[f32], w: &mut [f32]) -> usize {
-    rotation.apply(v, w);
-    runs::put_vector(out, 0, w)
+    let mut w = [0.0f32; 4096];
+    rotation.apply(&v[..n], &mut w[..padded]);
+    Some(runs::put_vector(out, 0, &w[..padded]))
 }

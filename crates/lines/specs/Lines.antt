@@ -1,7 +1,7 @@
 -- What is handed out of the buffer. What standard input holds no contract can say.
-use Rattle.std.specs.Prelude.{◌≡◌, true, false, ◌&&◌, cond, List, ℕ, ◌-◌, ◌≤◌, ◌<◌, leb, length, take, drop, get_or}
+use Rattle.std.specs.Prelude.{◌≡◌, ◌&&◌, cond, List, ℕ, ◌-◌, ◌≤◌, ◌<◌, Bool, Option, Result, Ok, Err, IfSome, IfOk, leb, length, take, drop, get_or}
 use Rattle.lines.specs.declared.Span.{Span}
-use Rattle.lines.specs.declared.Cursor.{Cursor}
+use Rattle.lines.specs.declared.TooLong.{TooLong}
 
 -- the part lies within n bytes
 pub record Within (n : ℕ) (s : Span) : Type 0 where
@@ -16,25 +16,22 @@ abbrev pub no_span : Span
 no_span = record { from = 0; to = 0 }
 
 -- the part where it lies within n bytes, else an empty one
-unfoldable pub clipped : ℕ → Span → Span
-clipped n s = cond (leb s.to n && leb s.from s.to) s no_span
+abbrev pub clipped : ℕ → Span → Span
+clipped n s = cond (leb s.from s.to && leb s.to n) s no_span
 
 -- the bytes of a part
 abbrev pub part_of : List ℕ → Span → List ℕ
 part_of buf s = take (s.to - s.from) (drop s.from buf)
 
--- the input has ended: nothing is handed out and nothing is unread
-abbrev pub at_end : Cursor
-at_end = record { line = no_span; long = false; unread = no_span; left = 0 }
+-- the line from a up to b; one that is too long is passed over
+abbrev pub handed : Bool → ℕ → ℕ → Result Span TooLong
+handed long a b = cond long (Err (record {})) (Ok (record { from = a; to = b }))
 
--- a line too long, after which the part `rest` is unread
-abbrev pub passed_over : Span → ℕ → Cursor
-passed_over rest left = record { line = no_span; long = true; unread = rest; left = left }
+-- the line lies within the buffer, and has no newline in it
+pub record Line (buf : List ℕ) (s : Span) : Type 0 where
+  pub within : Within (length buf) s
+  pub clean : NoNewline buf s.from s.to
 
--- each part lies within the buffer, the line has no newline in it and is empty where it was passed over, and the count went down from `before`
-pub record Handed (buf : List ℕ) (before : ℕ) (c : Cursor) : Type 0 where
-  pub line : Within (length buf) c.line
-  pub clean : NoNewline buf c.line.from c.line.to
-  pub passed : c.long ≡ true → c.line ≡ no_span
-  pub unread : Within (length buf) c.unread
-  pub fewer : c.left ≤ before - 1
+-- what is handed out is a line of the buffer, or was passed over
+abbrev pub Handed : List ℕ → Option (Result Span TooLong) → Type 0
+Handed buf found = IfSome found (λ r. IfOk r (Line buf))

@@ -1,14 +1,16 @@
 // The lines of what a reader gives, one after the other, through a buffer that the caller lends:
 //
-//     let mut cursor = lines::next_line(reader, buf, lines::START);
-//     while 0 < cursor.left {
-//         .. lines::line(buf, cursor) ..
-//         cursor = lines::next_line(reader, buf, cursor);
+//     let mut lines = Lines::new(reader, buf);
+//     for _ in 0..u64::MAX {
+//         let Some(found) = lines.next_line() else {
+//             break;
+//         };
+//         .. lines.bytes(found) ..
 //     }
 #![tactic(auto)]
 
-ghost use Rattle.std.specs.Prelude.{◌≡◌, ◌+◌, ◌≤◌, ◌<◌, length, take};
-ghost use Rattle.lines.specs.Lines.{Within, NoNewline, clipped, part_of, passed_over, at_end, Handed};
+ghost use Rattle.std.specs.Prelude.{◌≡◌, ◌+◌, ◌≤◌, ◌<◌, length, take, IfOk, MatchOption};
+ghost use Rattle.lines.specs.Lines.{Within, NoNewline, no_span, clipped, part_of, handed, Line, Handed};
 
 use std::io::Read;
 
@@ -19,190 +21,147 @@ pub struct Span {
     pub to: usize,
 }
 
-// Where the reading of the lines stands.
+impl Span {
+    pub const EMPTY: Span = Span { from: 0, to: 0 };
+}
+
+// A line that the buffer can't hold with its newline. It was passed over.
 #[derive(Clone, Copy)]
-pub struct Cursor {
-    // The line that is handed out, without its newline.
-    pub line: Span,
-    // Whether the line is one that the buffer can't hold with its newline: it was passed over, and the part is empty.
-    pub long: bool,
+pub struct TooLong;
+
+#[derive(Drop)]
+pub struct Lines<'a, R> {
+    pub reader: &'a mut R,
+    pub buf: &'a mut [u8],
     // What was read and not handed out.
     pub unread: Span,
-    // 0 where the input has ended. Nothing says that it ends, so lines and reads are counted down from a number that no run uses up.
-    pub left: u64,
+    pub ghost inside: { Within (length buf.now) unread },
 }
 
-// Before the first line: nothing is handed out or unread, and the count is the largest there is.
-pub const START: Cursor = Cursor {
-    line: Span { from: 0, to: 0 },
-    long: false,
-    unread: Span { from: 0, to: 0 },
-    left: u64::MAX,
-};
+impl<'a, R: Read> Lines<'a, R> {
+    // Before the first line.
+    pub fn new(reader: &'a mut R, buf: &'a mut [u8]) -> Lines<'a, R>
+        ensures buffer { result.buf.now ≡ buf.old }
+        ensures unread { result.unread ≡ no_span }
+    {
+        Lines {
+            reader,
+            buf,
+            unread: Span::EMPTY,
+        }
+    }
 
-// The bytes of the line that is handed out.
-pub fn line(buf: &[u8], cursor: Cursor) -> &[u8]
-    ensures { result.now ≡ part_of buf.now (clipped (length buf.now) cursor.line) }
-{
-    let whole = cursor.line;
-    let part = within(whole, buf.len());
-    let from = part.from;
-    let to = part.to;
-    &buf[from..to]
+    // The bytes of a line that was handed out.
+    pub fn bytes(&self, line: Span) -> &[u8]
+        ensures { result.now ≡ part_of self.now.buf.now (clipped (length self.now.buf.now) line) }
+    {
+        let part = within(line, self.buf.len());
+        &self.buf[part.from..part.to]
+    }
+
+    // The next line, without its newline; `None` where the input has ended. A last line without its newline counts, unless it is empty.
+    // The reader is read only where the buffer has no whole line more, and then once at a time, into all the room that there is: a line
+    // is handed out as soon as its newline has come.
+    pub fn next_line(&mut self) -> Option<Result<Span, TooLong>>
+        ensures { Handed self.new.buf.now result }
+    {
+        let (line, unread) = next_in(self.reader, self.buf, self.unread);
+        self.unread = unread;
+        line
+    }
 }
 
-// The next line. A last line without its newline counts, unless it is empty. The reader is read only where the buffer has no whole line
-// more, and then once at a time, into all the room that there is: a line is handed out as soon as its newline has come.
-pub fn next_line<R: Read>(reader: &mut R, buf: &mut [u8], before: Cursor) -> Cursor
-    ensures { Handed buf.new before.left result }
+// The next line, and what is unread after it. Nothing says that the input ends, so the reads are counted, up to a number that no run uses up.
+fn next_in<R: Read>(
+    reader: &mut R,
+    buf: &mut [u8],
+    unread: Span,
+) -> (Option<Result<Span, TooLong>>, Span)
+    requires { Within (length buf.old) unread }
+    ensures line { Handed buf.new result.0 }
+    ensures unread { Within (length buf.new) result.1 }
 {
-    let unread = before.unread;
-    let mut part = within(unread, buf.len());
+    let mut part = unread;
     let mut long = false;
-    let mut left = before.left;
-    while 0 < left {
-        left -= 1;
-        let from = part.from;
-        let to = part.to;
-        let end = newline(buf, from, to);
-        if end < to {
-            return found(buf, from, end, to, long, left);
+    for _ in 0..u64::MAX {
+        if let Some(end) = newline(buf, part) {
+            let rest = Span {
+                from: end + 1,
+                to: part.to,
+            };
+            return (Some(handed(buf, long, part.from, end)), rest);
         }
-        if to - from == buf.len() {
-            long = true;
-        }
-        let kept = keep(buf, from, to);
+        long = long || part.to - part.from == buf.len();
+        let kept = keep(buf, part);
         let got = read_more(reader, buf, kept);
         if got == 0 {
-            return last(buf, kept, long, left);
+            let last = if long || 0 < kept {
+                Some(handed(buf, long, 0, kept))
+            } else {
+                None
+            };
+            return (last, Span::EMPTY);
         }
         part = Span {
             from: 0,
             to: kept + got,
         };
     }
-    at_end()
+    (None, Span::EMPTY)
 }
 
-// The part itself, or none of the buffer where the part is not within it.
+// The part itself, or an empty one where the part is not within the buffer.
 fn within(part: Span, len: usize) -> Span
     ensures value { result ≡ clipped len part }
     ensures within { Within len result }
 {
-    let none = Span { from: 0, to: 0 };
-    if len < part.to {
-        return none;
+    if part.from <= part.to && part.to <= len {
+        return part;
     }
-    if part.to < part.from {
-        return none;
-    }
-    part
+    Span::EMPTY
 }
 
-// The place of the first newline from `from` on, or `to`.
-fn newline(buf: &[u8], from: usize, to: usize) -> usize
-    requires { (from ≤ to) × (to ≤ length buf.now) }
-    ensures lower_bound { (from ≤ result) × (result ≤ to) }
-    ensures no_newline { NoNewline buf.now from result }
+// The line that is handed out; one that is too long is passed over.
+fn handed(buf: &[u8], long: bool, from: usize, to: usize) -> Result<Span, TooLong>
+    requires within { (from ≤ to) × (to ≤ length buf.now) }
+    requires no_newline { NoNewline buf.now from to }
+    ensures value { result ≡ handed long from to }
+    ensures line { IfOk result (Line buf.now) }
 {
-    let mut i = from;
-    while i < to {
+    if long {
+        Err(TooLong)
+    } else {
+        Ok(Span { from, to })
+    }
+}
+
+// The place of the first newline in the part.
+fn newline(buf: &[u8], part: Span) -> Option<usize>
+    requires { Within (length buf.now) part }
+    ensures { MatchOption result (NoNewline buf.now part.from part.to)
+        (λ end. (part.from ≤ end) × (end < part.to) × NoNewline buf.now part.from end) }
+{
+    for i in part.from..part.to {
         if buf[i] == b'\n' {
-            return i;
+            return Some(i);
         }
-        i += 1;
     }
-    i
-}
-
-// The line that ends at a newline.
-fn found(buf: &[u8], from: usize, end: usize, to: usize, long: bool, left: u64) -> Cursor
-    requires from_le_end { (from ≤ end) × (end < to) × (to ≤ length buf.now) }
-    requires no_newline { NoNewline buf.now from end }
-    ensures { Handed buf.now (left + 1) result }
-{
-    let rest = Span {
-        from: end + 1,
-        to: to,
-    };
-    if long {
-        return passed_over(rest, left);
-    }
-    Cursor {
-        line: Span {
-            from: from,
-            to: end,
-        },
-        long: false,
-        unread: rest,
-        left: left,
-    }
-}
-
-// What is there when the input has ended.
-fn last(buf: &[u8], kept: usize, long: bool, left: u64) -> Cursor
-    requires kept_in_bounds { kept ≤ length buf.now }
-    requires no_newline { NoNewline buf.now 0 kept }
-    ensures { Handed buf.now (left + 1) result }
-{
-    let none = Span {
-        from: kept,
-        to: kept,
-    };
-    if long {
-        return passed_over(none, left);
-    }
-    if kept == 0 {
-        return at_end();
-    }
-    Cursor {
-        line: Span { from: 0, to: kept },
-        long: false,
-        unread: none,
-        left: left,
-    }
-}
-
-fn passed_over(rest: Span, left: u64) -> Cursor
-    ensures { result ≡ passed_over rest left }
-{
-    Cursor {
-        line: Span { from: 0, to: 0 },
-        long: true,
-        unread: rest,
-        left: left,
-    }
-}
-
-// The input has ended: nothing is handed out, and nothing is unread.
-fn at_end() -> Cursor
-    ensures { result ≡ at_end }
-{
-    Cursor {
-        line: Span { from: 0, to: 0 },
-        long: false,
-        unread: Span { from: 0, to: 0 },
-        left: 0,
-    }
+    None
 }
 
 // Moves a part to the front of the buffer, and answers its length. Where the part is the whole buffer, it is dropped: no line that long
 // is handed out.
-fn keep(buf: &mut [u8], from: usize, to: usize) -> usize
-    requires from_le_to { (from ≤ to) × (to ≤ length buf.old) }
-    requires no_newline { NoNewline buf.old from to }
+fn keep(buf: &mut [u8], part: Span) -> usize
+    requires within { Within (length buf.old) part }
+    requires no_newline { NoNewline buf.old part.from part.to }
     ensures within { result ≤ length buf.old }
     ensures clean { NoNewline buf.new 0 result }
 {
-    let n = to - from;
+    let n = part.to - part.from;
     if n == buf.len() {
         return 0;
     }
-    let mut i = 0;
-    while i < n {
-        buf[i] = buf[from + i];
-        i += 1;
-    }
+    buf.copy_within(part.from..part.to, 0);
     n
 }
 
@@ -212,6 +171,5 @@ fn read_more<R: Read>(reader: &mut R, buf: &mut [u8], kept: usize) -> usize
     ensures within { kept + result ≤ length buf.old }
     ensures front { take kept buf.new ≡ take kept buf.old }
 {
-    let room = &mut buf[kept..];
-    reader.read(room).unwrap_or(0)
+    reader.read(&mut buf[kept..]).unwrap_or(0)
 }

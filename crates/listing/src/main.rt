@@ -5,19 +5,15 @@ ghost use Rattle.std.specs.Prelude.{◌≡◌, length, take};
 ghost use Rattle.io.specs.Counts.{IsPrefixLen};
 ghost use Rattle.listed.specs.Listing.{listing_text};
 
-// One byte more than the longest file that is no refusal 20: of a longer file these bytes give the listing (`PartTells`).
-fn input() -> [u8; 65537] {
-    [0; 65537]
-}
-
 fn main() {
-    let mut file = input();
+    // One byte more than the longest file that is no refusal 20: of a longer file these bytes give the listing (`PartTells`).
+    let mut file = [0u8; 65537];
     let n = io::read_full(0, &mut file);
     print_listing(&file[..n]);
 }
 
 fn print_listing(file: &[u8]) {
-    let mut out = io::large_buffer();
+    let mut out = [0u8; 65536];
     let end = list(&mut out, file);
     io::write_all(1, &out[..end]);
 }

@@ -19,28 +19,6 @@ ghost use Rattle.listed.specs.Listing.{room, next_number, head_line, key_text, u
 
 use index::Made;
 
-// ---- the arrays that a file is read into
-
-fn code_bytes() -> [u8; 32768] {
-    [0; 32768]
-}
-
-fn words() -> [u32; 1024] {
-    [0; 1024]
-}
-
-fn key_words() -> [u64; 1024] {
-    [0; 1024]
-}
-
-fn flags() -> [bool; 1024] {
-    [false; 1024]
-}
-
-fn marks() -> [u8; 1024] {
-    [0; 1024]
-}
-
 // ---- reading
 
 fn refusal_of(made: Made) -> u8
@@ -58,12 +36,12 @@ fn read_keys(keys: &mut [u64], keyed: &mut [bool], file: &[u8]) -> u8
     ensures refusal { result ≡ read_refusal file.now room }
     ensures keys_after { result ≡ 0 → (i : ℕ) → i < count_in file.now → key_at keys.new keyed.new i ≡ key_from (entries_in file.now) i }
 {
-    let mut codes = code_bytes();
-    let mut scales = words();
-    let mut held = words();
-    let mut alive = marks();
-    let mut codes2 = code_bytes();
-    let mut scales2 = words();
+    let mut codes = [0u8; 32768];
+    let mut scales = [0u32; 1024];
+    let mut held = [0u32; 1024];
+    let mut alive = [0u8; 1024];
+    let mut codes2 = [0u8; 32768];
+    let mut scales2 = [0u32; 1024];
     let made = read::from_bytes(
         &mut codes,
         &mut scales,
@@ -79,14 +57,12 @@ fn read_keys(keys: &mut [u64], keyed: &mut [bool], file: &[u8]) -> u8
 }
 
 // The refusal of a file that is too long: that of its head, else 20, since nothing after the head is tested before 20.
+#[tactic(auto, unfolding(index::specs::Step::first_of))]
 fn long_refusal(file: &[u8]) -> u8
     ensures { result ≡ first_of (head_fault file.now ∷ 20 ∷ []) }
 {
     let number = header::head_fault(file);
-    if number == 0 {
-        return 20;
-    }
-    number
+    if number == 0 { 20 } else { number }
 }
 
 // The first scale of a slot as a half: as the file has it, so that a NaN stays as it stands. A binary32 scale is rounded.
@@ -146,9 +122,10 @@ fn last_digit(n: u16) -> u8
 {
     let digit = (n % 16) as u8;
     if digit < 10 {
-        return b'0' + digit;
+        b'0' + digit
+    } else {
+        b'A' + (digit - 10)
     }
-    b'A' + (digit - 10)
 }
 
 // A blank, four digits, and the line's end.
@@ -181,10 +158,8 @@ fn put_slots(out: &mut [u8], at: usize, keys: &[u64], keyed: &[bool], file: &[u8
 {
     let n = header::head_in(file).count;
     let mut next = at;
-    let mut slot: u32 = 0;
-    while slot < n {
+    for slot in 0..n {
         next = put_slot(out, next, keys, keyed, slot, half_of(file, slot));
-        slot += 1;
     }
     next
 }
@@ -194,8 +169,8 @@ fn put_slots(out: &mut [u8], at: usize, keys: &[u64], keyed: &[bool], file: &[u8
 fn put_read(out: &mut [u8], file: &[u8]) -> usize
     ensures { Prints out.old 0 (text_unless (read_refusal file.now room) file.now) out.new result }
 {
-    let mut keys = key_words();
-    let mut keyed = flags();
+    let mut keys = [0u64; 1024];
+    let mut keyed = [false; 1024];
     let number = read_keys(&mut keys, &mut keyed, file);
     if number == 0 {
         let at = put_head(out, file);

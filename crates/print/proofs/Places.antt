@@ -2,14 +2,17 @@
 use mathlib.Core.Path.{◌≡◌, refl, sym, ap, ap₂, ◌∙◌}
 use mathlib.Core.Bool.{Bool, true, false}
 use mathlib.Core.List.{List, [], ◌∷◌, ◌++◌}
-use Prim.Native.Nat.{ℕ, suc, ◌+◌, ◌≤◌, ◌<◌, min}
+use Prim.Native.Nat.{ℕ, suc, ◌+◌, ◌-◌, ◌≤◌, min}
 use native.Mathlib.Nat.{min-eq_left, min-eq_right, le_of_lt}
-use native.Mathlib.Numerals.{add-one}
+use native.Mathlib.Decide.{dec_lt}
 use native.Mathlib.Omega.{arith}
+use borrow.Rule.Slice.PartMut.{put_mid}
 use borrow.Author.Tests.{ltb-true, ltb-false}
 use lib.Dec.{ltb}
-use lib.ListN.{length, take, drop, get_or, length-append}
-use lib.Seq.{sets, sets-eq, set_out, take-suc, take_at, length-sets}
+use lib.ListN.{length, take, drop, length-append, take-append-drop}
+use lib.Seq.{sets, sets-eq, set_out, take_at, take-length, length-sets, length-take-le}
+use Rattle.std.proofs.lemmas.List.{drop_all}
+use Rattle.std.proofs.lemmas.Slice.{put_mid-paste}
 use Rattle.lists.proofs.Keep.{sets-append}
 use Rattle.io.specs.Counts.{IsPrefixLen}
 use Rattle.print.specs.Printed.{Prints}
@@ -39,10 +42,34 @@ put_then d at s t d' next d'' after p q =
       place = omega (arith, p.place, q.place);
     }
 
--- the next byte of s, after the first i
-pub put-more : (d : List ℕ) (at : ℕ) (s : List ℕ) (i : ℕ) (d' : List ℕ) (next : ℕ) (d'' : List ℕ) (after : ℕ) → i < length s
-    → Prints d at (take i s) d' next → Prints d' next (get_or s i 0 ∷ []) d'' after → Prints d at (take (i + 1) s) d'' after
-put-more d at s i d' next d'' after h p q = rw (add-one, take-suc s i 0) (put_then d at (take i s) (get_or s i 0 ∷ []) d' next d'' after p q)
+-- what has room of t, stored from k on, is all that is stored of it
+room : (d : List ℕ) (k : ℕ) (t : List ℕ) (n : ℕ) → k ≤ length d → n ≡ min (length t) (length d - k) → sets d k (take n t) ≡ sets d k t
+room d k t n h e = sym rest ∙ ap (λ (l : List ℕ). sets d k l) (take-append-drop n t)
+  where
+    size : length (take n t) ≡ n
+    size = length-take-le n t (omega arith)
+
+    past : (s : List ℕ) (i : ℕ) → length s ≡ length d → i ≡ k + n → sets s i (drop n t) ≡ s
+    past s i same at =
+        elim (dec_lt (length t) (length d - k)) [
+          | yes few ↦ rw (drop_all n t (omega arith))
+          | no many ↦ sets-out s i (drop n t) (omega arith)
+        ]
+
+    rest : sets d k (take n t ++ drop n t) ≡ sets d k (take n t)
+    rest = sets-append d k (take n t) (drop n t) ∙ past (sets d k (take n t)) (k + length (take n t)) (length-sets d k (take n t)) (omega (arith, size))
+
+-- a copy of what has room, from the place `at` on or from the end where that comes first
+pub put_copy : (d : List ℕ) (at : ℕ) (t : List ℕ) (from n k : ℕ) (part : List ℕ) → from ≡ min at (length d) → n ≡ min (length t) (length d - from) → k ≡ n → part ≡ take n t
+    → Prints d at t (put_mid from k d part) (from + n)
+put_copy d at t from n k part f e same copied =
+    let size : length (take n t) ≡ n = length-take-le n t (omega arith) in
+    let stored : put_mid from k d part ≡ sets d from (take n t) =
+    put_mid-paste from k d part (take n t) (length (take n t)) copied (omega arith) refl ∙ rw take-length (sym (sets-eq (take n t) d from (omega arith))) in
+    record {
+      text = stored ∙ room d from t n (omega arith) e ∙ rw (f, cut d at (length d) t refl);
+      place = omega arith;
+    }
 
 -- what has room at the front stands there whole
 pub whole : (d t d' : List ℕ) (next : ℕ) → length t ≤ length d → Prints d 0 t d' next → IsPrefixLen next d' × (take next d' ≡ t)

@@ -2,7 +2,7 @@
 // what it printed. No function here asks anything of its caller.
 #![tactic(auto)]
 
-ghost use Rattle.std.specs.Prelude.{◌≡◌, [], ◌∷◌, min};
+ghost use Rattle.std.specs.Prelude.{◌≡◌, [], ◌∷◌};
 ghost use Rattle.std.proofs.lemmas.List.Edits.{sets};
 ghost use Rattle.print.specs.Printed.{Prints};
 
@@ -22,13 +22,10 @@ pub fn put_byte(out: &mut [u8], at: usize, b: u8) -> usize
 pub fn put_bytes(out: &mut [u8], at: usize, bytes: &[u8]) -> usize
     ensures { Prints out.old at bytes.now out.new result }
 {
-    let mut end = least(at, out.len());
-    let mut i = 0;
-    while i < bytes.len() {
-        end = put_byte(out, end, bytes[i]);
-        i += 1;
-    }
-    end
+    let from = at.min(out.len());
+    let n = bytes.len().min(out.len() - from);
+    out[from..from + n].copy_from_slice(&bytes[..n]);
+    from + n
 }
 
 // Writes the first n bytes of out to standard output, and a newline.
@@ -36,11 +33,5 @@ pub fn print_line(out: &mut [u8], n: usize)
     ensures { out.new ≡ sets out.old n (10 ∷ []) }
 {
     let end = put_byte(out, n, b'\n');
-    io::write_all(1, &out[0..end]);
-}
-
-fn least(a: usize, b: usize) -> usize
-    ensures { result ≡ min a b }
-{
-    if a < b { a } else { b }
+    io::write_all(1, &out[..end]);
 }

@@ -2,48 +2,121 @@
 // No function here asks anything of its caller.
 #![tactic(auto)]
 
-ghost use Rattle.std.specs.Prelude.{◌≡◌, ◌<◌};
+ghost use Rattle.std.specs.Prelude.{◌≡◌, ℕ, ◌^◌, ◌≤◌, ◌<◌, cond};
 ghost use Rattle.std.specs.Float.{binary32};
 ghost use Rattle.std.specs.Float.Ieee.{to_bits};
+ghost use Rattle.std.proofs.Common.{rules};
 ghost use Rattle.print.specs.Printed.{Prints};
 ghost use Rattle.runs.specs.Runs.{run_text};
+
+// What is printed as a number, always in as many hexadecimal digits.
+pub trait InHex {
+    const DIGITS: usize;
+
+    ghost DIGITS: { ℕ };
+
+    ghost number: { Self → ℕ };
+
+    fn number(self) -> u64
+        ensures value { result ≡ number self }
+        ensures small { result < 16 ^ DIGITS };
+
+    ghost width: { (0 < DIGITS) × (DIGITS ≤ 16) };
+}
+
+impl InHex for f32 {
+    const DIGITS: usize = 8;
+
+    ghost DIGITS = { 8 };
+
+    ghost number = { to_bits binary32 };
+
+    fn number(self) -> u64 {
+        pattern::to_bits(self) as u64
+    }
+
+    ghost width = { Prim.search rules };
+}
+
+impl InHex for u8 {
+    const DIGITS: usize = 2;
+
+    ghost DIGITS = { 2 };
+
+    ghost number = { λ n. n };
+
+    fn number(self) -> u64 {
+        self as u64
+    }
+
+    ghost width = { Prim.search rules };
+}
+
+impl InHex for u32 {
+    const DIGITS: usize = 8;
+
+    ghost DIGITS = { 8 };
+
+    ghost number = { λ n. n };
+
+    fn number(self) -> u64 {
+        self as u64
+    }
+
+    ghost width = { Prim.search rules };
+}
+
+impl InHex for u64 {
+    const DIGITS: usize = 16;
+
+    ghost DIGITS = { 16 };
+
+    ghost number = { λ n. n };
+
+    fn number(self) -> u64 {
+        self
+    }
+
+    ghost width = { Prim.search rules };
+}
+
+impl InHex for bool {
+    const DIGITS: usize = 1;
+
+    ghost DIGITS = { 1 };
+
+    ghost number = { λ b. cond b 1 0 };
+
+    fn number(self) -> u64 {
+        self as u64
+    }
+
+    ghost width = { Prim.search rules };
+}
 
 // A vector: the patterns of its entries in eight digits each, run together; `-` where it has none.
 pub fn put_vector(out: &mut [u8], at: usize, v: &[f32]) -> usize
     ensures { Prints out.old at (run_text 8 (to_bits binary32) v.now) out.new result }
 {
-    if v.len() == 0 {
-        return print::put_byte(out, at, b'-');
-    }
-    // after no bytes: at, or the end of out where that comes first
-    let mut next = print::put_bytes(out, at, b"");
-    let mut i = 0;
-    while i < v.len() {
-        next = numerals::put_hex(out, next, pattern::to_bits(v[i]) as u64, 8);
-        i += 1;
-    }
-    next
+    put_each(out, at, v)
 }
 
 // A run of bytes: two digits each, run together; `-` where there is none.
 pub fn put_run(out: &mut [u8], at: usize, bytes: &[u8]) -> usize
     ensures { Prints out.old at (run_text 2 (λ b. b) bytes.now) out.new result }
 {
-    if bytes.len() == 0 {
-        return print::put_byte(out, at, b'-');
-    }
-    // after no bytes: at, or the end of out where that comes first
-    let mut next = print::put_bytes(out, at, b"");
-    let mut i = 0;
-    while i < bytes.len() {
-        next = numerals::put_hex(out, next, wide(bytes[i]), 2);
-        i += 1;
-    }
-    next
+    put_each(out, at, bytes)
 }
 
-fn wide(byte: u8) -> u64
-    ensures { (result ≡ byte) × (result < 256) }
+fn put_each<T: InHex + Copy>(out: &mut [u8], at: usize, xs: &[T]) -> usize
+    ensures { Prints out.old at (run_text T.DIGITS T.number xs.now) out.new result }
 {
-    byte as u64
+    if xs.is_empty() {
+        return print::put_byte(out, at, b'-');
+    }
+    let mut next = at.min(out.len());
+    for x in xs {
+        next = numerals::put_hex(out, next, x.number(), T::DIGITS);
+    }
+    next
 }

@@ -3,25 +3,18 @@ use mathlib.Core.Path.{◌≡◌, refl, ap, ◌∙◌}
 use mathlib.Core.Bool.{true}
 use mathlib.Core.List.{List, [], ◌∷◌}
 use Prim.Native.Nat.{ℕ, zero, suc, ◌+◌, ◌*◌, ◌^◌, ◌≤◌, ◌<◌}
-use native.Mathlib.Nat.{lt_of_lt_of_le, le_of_suc-le-suc, mul-le-mul_right, pow-le-pow_right, pow-suc}
+use native.Mathlib.Nat.{lt_of_lt_of_le, mul-le-mul_right, pow-le-pow_right, pow-suc}
 use native.Mathlib.Numerals.{add-one}
 use native.Mathlib.Omega.{arith}
-use borrow.Author.Tests.{ltb-true}
 use lib.Dec.{ltb, lit<}
-use lib.ListN.{length, take, drop, get_or, length-drop}
-use lib.Seq.{drop-cons, length-take-le}
+use lib.ListN.{take, drop}
 use Rattle.lists.proofs.Tests.{both}
-use Rattle.values.specs.Reading.{digit_of, are_digits, value_after}
+use Rattle.values.specs.Reading.{digit_of, are_digits}
 
 -- ---- every byte is a digit
 
 pub first-digit : (b : ℕ) (l : List ℕ) → are_digits (b ∷ l) ≡ true → (ltb (digit_of b) 16 ≡ true) × (are_digits l ≡ true)
 first-digit b l e = both (ltb (digit_of b) 16) (are_digits l) e
-
-pub digit_at : (l : List ℕ) (i : ℕ) → are_digits l ≡ true → i < length l → digit_of (get_or l i 0) < 16
-digit_at [] i e h = absurd (omega arith)
-digit_at (b ∷ l) zero e h = ltb-true _ _ (first-digit b l e).0
-digit_at (b ∷ l) (suc i) e h = digit_at l i (first-digit b l e).1 (le_of_suc-le-suc h)
 
 digits-drop : (l : List ℕ) (j : ℕ) → are_digits l ≡ true → are_digits (drop j l) ≡ true
 digits-drop l zero e = e
@@ -35,13 +28,6 @@ digits-take (b ∷ l) (suc k) e = rw ((first-digit b l e).0, digits-take l k (fi
 
 pub digits-part : (l : List ℕ) (j k : ℕ) → are_digits l ≡ true → are_digits (take k (drop j l)) ≡ true
 digits-part l j k e = digits-take (drop j l) k (digits-drop l j e)
-
-pub part_length : (l : List ℕ) (j k : ℕ) → j + k ≤ length l → length (take k (drop j l)) ≡ k
-part_length l j k h = length-take-le k (drop j l) (omega (arith, length-drop j l))
-
-module _ (l : List ℕ) (i : ℕ) (h : i < length l) where
-  pub value-step : (v : ℕ) → value_after (v * 16 + digit_of (get_or l i 0)) (drop (i + 1) l) ≡ value_after v (drop i l)
-  value-step v = rw (add-one, drop-cons l i 0)
 
 -- ---- i digits hold a number below 16 ^ i
 

@@ -1,5 +1,5 @@
 -- Laws that the proofs of several functions cite.
 mod Digits
 mod Filling
-pub mod RoundTrip
 mod Runs
+pub mod RoundTrip

@@ -3,6 +3,7 @@
 use mathlib.Core.Path.{◌≡◌, refl, sym, ap, ◌∙◌}
 use mathlib.Core.Bool.{Bool, true, false, cond}
 use mathlib.Core.List.{List, [], ◌∷◌, ◌++◌}
+use Rattle.std.specs.Prelude.{Some}
 use Prim.Native.Nat.{ℕ, zero, suc, ◌+◌, ◌-◌, ◌*◌, ◌/◌, ◌%◌, ◌^◌, ◌≤◌, ◌<◌}
 use native.Mathlib.Nat.{div-add-mod', mod-lt, div-lt_iff_lt-mul, le-div_iff_mul-le, pow-suc, pow-le-pow_right, le_trans, lt_of_le_of_lt}
 use native.Mathlib.Numerals.{sub-one}
@@ -11,7 +12,7 @@ use borrow.Author.Tests.{le-leb, lt-leb, lt-ltb, ltb-true, ltb-false, ne_eqb}
 use lib.Dec.{ltb, lit<}
 use lib.ListN.{length, get_or, length-append, get_or-append}
 use Rattle.io.specs.Digits.{hex_digit_ascii, last_digits, IsDigitCount}
-use Rattle.values.specs.Reading.{digit_of, are_digits, value_after, value_of, leads_with_zero, is_number, number_read, number_of}
+use Rattle.values.specs.Reading.{digit_of, are_digits, value_after, value_of, leads_with_zero, is_number, number_of}
 use Rattle.values.proofs.Digits.{first-digit}
 
 -- ---- one digit
@@ -93,7 +94,7 @@ sixteen k n f h = go (ltb 16 k) refl
         let big : 16 ^ 16 ≤ n = le_trans (pow-le-pow_right {n = 16} (lit< tt) {i = 16} {j = k - 1} (omega arith)) (f.2 (omega arith)) in
         absurd (omega arith)
 
-pub read_back : (k n most : ℕ) → IsDigitCount 16 1 n k → n ≤ most → most < 2 ^ 64 → number_of most (last_digits 16 k n) ≡ number_read n
+pub read_back : (k n most : ℕ) → IsDigitCount 16 1 n k → n ≤ most → most < 2 ^ 64 → number_of most (last_digits 16 k n) ≡ Some n
 unfolding number_of is_number
 read_back k n most f h m =
     let long = digits-length k n in

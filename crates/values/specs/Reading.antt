@@ -1,12 +1,11 @@
 -- How a field is read, as the language of the program `exercise` has it: "Every number is hexadecimal, lower case, with no prefix and no leading zero
 -- (`0` is zero)"; "A number has at most 16 digits"; "A vector is the binary32 patterns of its entries, eight digits each, run together; bytes are two
 -- digits each, run together; an empty vector or an empty run of bytes is `-`".
-use Rattle.std.specs.Prelude.{◌≡◌, refl, ℕ, ◌+◌, ◌-◌, ◌*◌, ◌/◌, ◌%◌, ◌≤◌, ◌<◌, Bool, true, false, ◌&&◌, not, cond, List, [], ◌∷◌, eqb, ltb, leb, Float, length, take, drop, get_or}
+use Rattle.std.specs.Prelude.{◌≡◌, refl, ℕ, ◌+◌, ◌-◌, ◌*◌, ◌/◌, ◌%◌, ◌≤◌, ◌<◌, Bool, true, ◌&&◌, not, cond, List, [], ◌∷◌, eqb, ltb, leb, Float, Option, Some, None, length, take, drop, get_or}
 use Rattle.std.specs.Float.{binary32}
 use Rattle.std.specs.Float.Ieee.{of_bits}
+use Rattle.std.specs.List.{list_all}
 use Rattle.lists.specs.Lists.{tab}
-use Rattle.values.specs.declared.Number.{Number}
-use Rattle.values.specs.declared.Run.{Run}
 
 -- ---- digits
 
@@ -18,8 +17,7 @@ unfoldable pub digit_of : ℕ → ℕ
 digit_of b = cond (inside 48 57 b) (b - 48) (cond (inside 97 102 b) (b - 87) 16)
 
 abbrev pub are_digits : List ℕ → Bool
-are_digits [] = true
-are_digits (b ∷ bs) = ltb (digit_of b) 16 && are_digits bs
+are_digits ds = list_all (λ b. ltb (digit_of b) 16) ds
 
 -- the number that digits stand for where v stands for those before them
 abbrev pub value_after : ℕ → List ℕ → ℕ
@@ -39,18 +37,13 @@ leads_with_zero f = leb 2 (length f) && eqb (get_or f 0 0) 48
 unfoldable pub is_number : List ℕ → Bool
 is_number f = ltb 0 (length f) && (leb (length f) 16 && (not (leads_with_zero f) && are_digits f))
 
-abbrev pub number_read : ℕ → Number
-number_read n = record { ok = true; value = n }
-
-abbrev pub no_number : Number
-no_number = record { ok = false; value = 0 }
-
-abbrev pub at_most : ℕ → ℕ → Number
-at_most most n = cond (leb n most) (number_read n) no_number
+-- the number that digits stand for; none where there is a byte that is no digit
+abbrev pub digits_read : List ℕ → Option ℕ
+digits_read ds = cond (are_digits ds) (Some (value_of ds)) None
 
 -- the number that the field is, where it is one of at most `most`
-unfoldable pub number_of : ℕ → List ℕ → Number
-number_of most f = cond (is_number f) (at_most most (value_of f)) no_number
+unfoldable pub number_of : ℕ → List ℕ → Option ℕ
+number_of most f = cond (is_number f && leb (value_of f) most) (Some (value_of f)) None
 
 -- ---- vectors and bytes: elements of w digits each
 
@@ -62,15 +55,9 @@ is_dash f = eqb (length f) 1 && eqb (get_or f 0 0) 45
 unfoldable pub is_run : ℕ → ℕ → List ℕ → Bool
 is_run w room f = ltb 0 (length f) && (eqb (length f % w) 0 && (leb (length f / w) room && are_digits f))
 
-abbrev pub run : ℕ → Run
-run n = record { ok = true; length = n }
-
-abbrev pub no_run : Run
-no_run = record { ok = false; length = 0 }
-
 -- how many elements the field has, where it is a run of them
-unfoldable pub run_of : ℕ → ℕ → List ℕ → Run
-run_of w room f = cond (is_dash f) (run 0) (cond (is_run w room f) (run (length f / w)) no_run)
+unfoldable pub run_of : ℕ → ℕ → List ℕ → Option ℕ
+run_of w room f = cond (is_dash f) (Some 0) (cond (is_run w room f) (Some (length f / w)) None)
 
 -- a run of n elements of w digits: there is room for them, and where there are any the field has all their digits
 pub record IsRun (w room : ℕ) (f : List ℕ) (n : ℕ) : Type 0 where
@@ -92,11 +79,11 @@ bytes_of f n = tab (element_of 2 f) n
 -- ---- worked by hand
 
 -- `1f` is 31, which is not at most 30; `0` is 0, and `01` is no number
-number-worked : (number_of 31 (49 ∷ 102 ∷ []) ≡ number_read 31) × (number_of 30 (49 ∷ 102 ∷ []) ≡ no_number) × (number_of 0 (48 ∷ []) ≡ number_read 0) × (number_of 9 (48 ∷ 49 ∷ []) ≡ no_number)
+number-worked : (number_of 31 (49 ∷ 102 ∷ []) ≡ Some 31) × (number_of 30 (49 ∷ 102 ∷ []) ≡ None) × (number_of 0 (48 ∷ []) ≡ Some 0) × (number_of 9 (48 ∷ 49 ∷ []) ≡ None)
 unfolding number_of is_number leads_with_zero digit_of
 number-worked = (refl, refl, refl, refl)
 
 -- `0aff` is the two bytes 10 and 255, `-` is none, and `0af` is no run of bytes
-bytes-worked : (run_of 2 9 (48 ∷ 97 ∷ 102 ∷ 102 ∷ []) ≡ run 2) × (bytes_of (48 ∷ 97 ∷ 102 ∷ 102 ∷ []) 2 ≡ 10 ∷ 255 ∷ []) × (run_of 2 9 (45 ∷ []) ≡ run 0) × (run_of 2 9 (48 ∷ 97 ∷ 102 ∷ []) ≡ no_run)
+bytes-worked : (run_of 2 9 (48 ∷ 97 ∷ 102 ∷ 102 ∷ []) ≡ Some 2) × (bytes_of (48 ∷ 97 ∷ 102 ∷ 102 ∷ []) 2 ≡ 10 ∷ 255 ∷ []) × (run_of 2 9 (45 ∷ []) ≡ Some 0) × (run_of 2 9 (48 ∷ 97 ∷ 102 ∷ []) ≡ None)
 unfolding run_of is_run is_dash digit_of
 bytes-worked = (refl, refl, refl, refl)

@@ -2,235 +2,188 @@
 // No function here that others call asks anything of its caller.
 #![tactic(auto)]
 
-ghost use Rattle.std.specs.Prelude.{◌≡◌, true, ◌+◌, ◌*◌, ◌^◌, ◌≤◌, ◌<◌, length};
-ghost use Rattle.lists.specs.Lists.{over};
+ghost use Rattle.std.specs.Prelude.{◌≡◌, true, ℕ, ◌+◌, ◌*◌, ◌^◌, ◌≤◌, ◌<◌, length, IfSome, MatchOption};
+ghost use Rattle.std.specs.Float.{binary32};
+ghost use Rattle.std.specs.Float.Ieee.{of_bits};
+ghost use Rattle.std.proofs.Common.{rules};
+ghost use Rattle.lists.specs.Lists.{tab, over};
 ghost use Rattle.text.specs.Fields.{field_at};
-ghost use Rattle.values.specs.Reading.{digit_of, are_digits, value_of, leads_with_zero, is_number, no_number, at_most, number_of, is_dash, is_run, run, run_of, IsRun, element_of, floats_of, bytes_of};
-
-// A number of a line: whether it can be read, and its value; 0 where it can't.
-#[derive(Clone, Copy)]
-pub struct Number {
-    pub ok: bool,
-    pub value: u64,
-}
-
-// A run of elements in a line: whether it can be read, and how many there are; 0 where it can't.
-#[derive(Clone, Copy)]
-pub struct Run {
-    pub ok: bool,
-    pub length: usize,
-}
+ghost use Rattle.values.specs.Reading.{digit_of, are_digits, digits_read, leads_with_zero, number_of, is_run, run_of, IsRun, element_of, floats_of, bytes_of};
 
 // Field i as a number: 1 to 16 digits, the first of several not 0, of a value of at most `most`.
-pub fn number_at(line: &[u8], i: usize, most: u64) -> Number
+pub fn number_at(line: &[u8], i: usize, most: u64) -> Option<u64>
     ensures number { result ≡ number_of most (field_at line.now i) }
-    ensures bound { result.value ≤ most }
+    ensures bound { IfSome result (λ n. n ≤ most) }
 {
     read_number(text::field(line, i), most)
 }
 
-// Field i as a vector, read into the first places of out. Where the field is no vector, or has more entries than out, nothing is read.
-pub fn vector_at(line: &[u8], i: usize, out: &mut [f32]) -> Run
+// Field i as a vector, read into the first places of out, and how many entries it has. Where the field is no vector, or has more entries
+// than out, nothing is read.
+pub fn vector_at(line: &[u8], i: usize, out: &mut [f32]) -> Option<usize>
     ensures run { result ≡ run_of 8 (length out.old) (field_at line.now i) }
-    ensures read { out.new ≡ over (floats_of (field_at line.now i) result.length) out.old }
-    ensures fits { result.length ≤ length out.old }
+    ensures read { MatchOption result (out.new ≡ out.old)
+        (λ n. out.new ≡ over (floats_of (field_at line.now i) n) out.old) }
+    ensures fits { IfSome result (λ n. n ≤ length out.old) }
 {
-    let f = text::field(line, i);
-    let run = run_of(f, 8, out.len());
-    fill_floats(f, run.length, out);
-    run
+    read_run(text::field(line, i), out)
 }
 
-// Field i as bytes, read into the first places of out. Where the field is no run of bytes, or has more than out, nothing is read.
-pub fn bytes_at(line: &[u8], i: usize, out: &mut [u8]) -> Run
+// Field i as bytes, read into the first places of out, and how many there are. Where the field is no run of bytes, or has more than out,
+// nothing is read.
+pub fn bytes_at(line: &[u8], i: usize, out: &mut [u8]) -> Option<usize>
     ensures run { result ≡ run_of 2 (length out.old) (field_at line.now i) }
-    ensures read { out.new ≡ over (bytes_of (field_at line.now i) result.length) out.old }
-    ensures fits { result.length ≤ length out.old }
+    ensures read { MatchOption result (out.new ≡ out.old)
+        (λ n. out.new ≡ over (bytes_of (field_at line.now i) n) out.old) }
+    ensures fits { IfSome result (λ n. n ≤ length out.old) }
 {
-    let f = text::field(line, i);
-    let run = run_of(f, 2, out.len());
-    fill_bytes(f, run.length, out);
-    run
+    read_run(text::field(line, i), out)
 }
 
-fn read_number(field: &[u8], most: u64) -> Number
+// ---- numbers
+
+#[tactic(auto, unfolding(crate::specs::Reading::number_of, crate::specs::Reading::is_number))]
+fn read_number(field: &[u8], most: u64) -> Option<u64>
     ensures value { result ≡ number_of most field.now }
-    ensures bound { result.value ≤ most }
+    ensures bound { IfSome result (λ n. n ≤ most) }
 {
-    if is_number(field) {
-        return at_most(value(field), most);
+    if field.is_empty() || 16 < field.len() || leads_with_zero(field) {
+        return None;
     }
-    no_number()
+    let n = value(field)?;
+    if n <= most { Some(n) } else { None }
 }
 
-fn at_most(n: u64, most: u64) -> Number
-    ensures value { result ≡ at_most most n }
-    ensures bound { result.value ≤ most }
+#[tactic(auto, unfolding(crate::specs::Reading::leads_with_zero))]
+fn leads_with_zero(field: &[u8]) -> bool
+    ensures { result ≡ leads_with_zero field.now }
 {
-    if n <= most {
-        return Number { ok: true, value: n };
-    }
-    no_number()
+    2 <= field.len() && field[0] == b'0'
 }
 
-fn no_number() -> Number
-    ensures { result ≡ no_number }
+// The value of a hexadecimal digit, in lower case.
+#[tactic(auto, unfolding(crate::specs::Reading::digit_of))]
+fn digit(b: u8) -> Option<u8>
+    ensures { MatchOption result (16 ≤ digit_of b) (λ d. (d ≡ digit_of b) × (d < 16)) }
 {
-    Number {
-        ok: false,
-        value: 0,
+    match b {
+        b'0'..=b'9' => Some(b - b'0'),
+        b'a'..=b'f' => Some(b - b'a' + 10),
+        _ => None,
     }
-}
-
-// The value of a hexadecimal digit, in lower case; 16 for any other byte.
-fn digit(b: u8) -> u8
-    ensures { result ≡ digit_of b }
-{
-    if b < b'0' {
-        return 16;
-    }
-    if b <= b'9' {
-        return b - b'0';
-    }
-    if b < b'a' {
-        return 16;
-    }
-    if b <= b'f' {
-        return b - b'a' + 10;
-    }
-    16
 }
 
 fn are_digits(s: &[u8]) -> bool
     ensures { result ≡ are_digits s.now }
 {
-    let mut i = 0;
-    while i < s.len() {
-        if 15 < digit(s[i]) {
-            return false;
-        }
-        i += 1;
-    }
-    true
+    s.iter().all(|b| digit(*b).is_some())
 }
 
-fn is_number(field: &[u8]) -> bool
-    ensures { result ≡ is_number field.now }
-{
-    if field.len() == 0 {
-        return false;
-    }
-    if 16 < field.len() {
-        return false;
-    }
-    if leads_with_zero(field) {
-        return false;
-    }
-    are_digits(field)
-}
-
-fn leads_with_zero(field: &[u8]) -> bool
-    ensures { result ≡ leads_with_zero field.now }
-{
-    if field.len() < 2 {
-        return false;
-    }
-    field[0] == b'0'
-}
-
-// The number that a run of at most 16 digits stands for.
-fn value(digits: &[u8]) -> u64
-    requires { (are_digits digits.now ≡ true) × (length digits.now ≤ 16) }
-    ensures { (result ≡ value_of digits.now) × (result < 16 ^ length digits.now) }
+// The number that at most 16 digits stand for.
+fn value(digits: &[u8]) -> Option<u64>
+    requires { length digits.now ≤ 16 }
+    ensures value { result ≡ digits_read digits.now }
+    ensures bound { IfSome result (λ v. v < 16 ^ length digits.now) }
 {
     let mut v: u64 = 0;
-    let mut i = 0;
-    while i < digits.len() {
-        v = v * 16 + digit(digits[i]) as u64;
-        i += 1;
+    for b in digits {
+        v = v * 16 + u64::from(digit(*b)?);
     }
-    v
+    Some(v)
+}
+
+// ---- runs of elements
+
+// What a run has as its elements: numbers of so many digits each.
+trait Element {
+    const DIGITS: usize;
+
+    ghost DIGITS: { ℕ };
+
+    ghost of_number: { ℕ → Self };
+
+    fn of_number(n: u64) -> Self
+        requires { n < 16 ^ DIGITS }
+        ensures { result ≡ of_number n };
+
+    ghost width: { (0 < DIGITS) × (DIGITS ≤ 16) };
+}
+
+impl Element for u8 {
+    const DIGITS: usize = 2;
+
+    ghost DIGITS = { 2 };
+
+    ghost of_number = { λ n. n };
+
+    fn of_number(n: u64) -> u8 {
+        n as u8
+    }
+
+    ghost width = { Prim.search rules };
+}
+
+impl Element for f32 {
+    const DIGITS: usize = 8;
+
+    ghost DIGITS = { 8 };
+
+    ghost of_number = { of_bits binary32 };
+
+    fn of_number(n: u64) -> f32 {
+        pattern::from_bits(n as u32)
+    }
+
+    ghost width = { Prim.search rules };
+}
+
+fn read_run<T: Element + Copy>(field: &[u8], out: &mut [T]) -> Option<usize>
+    ensures run { result ≡ run_of T.DIGITS (length out.old) field.now }
+    ensures read { MatchOption result (out.new ≡ out.old)
+        (λ n. out.new ≡ over (tab (λ i. T.of_number (element_of T.DIGITS field.now i)) n) out.old) }
+    ensures fits { IfSome result (λ n. n ≤ length out.old) }
+{
+    let n = run_of(field, T::DIGITS, out.len())?;
+    // By index: a write through iter_mut says nothing of the elements.
+    for i in 0..n {
+        out[i] = T::of_number(number_in(field, T::DIGITS, i));
+    }
+    Some(n)
 }
 
 // How many elements of width digits the field has, where there is room for them.
-fn run_of(field: &[u8], width: usize, room: usize) -> Run
+#[tactic(auto, unfolding(crate::specs::Reading::run_of, crate::specs::Reading::is_dash))]
+fn run_of(field: &[u8], width: usize, room: usize) -> Option<usize>
     requires { 0 < width }
     ensures value { result ≡ run_of width room field.now }
-    ensures run { IsRun width room field.now result.length }
+    ensures run { IfSome result (IsRun width room field.now) }
 {
-    if is_dash(field) {
-        return a_run(0);
+    if matches!(field, [b'-']) {
+        return Some(0);
     }
     if is_run(field, width, room) {
-        return a_run(field.len() / width);
-    }
-    Run {
-        ok: false,
-        length: 0,
+        Some(field.len() / width)
+    } else {
+        None
     }
 }
 
-fn a_run(n: usize) -> Run
-    ensures { result ≡ run n }
-{
-    Run {
-        ok: true,
-        length: n,
-    }
-}
-
-fn is_dash(field: &[u8]) -> bool
-    ensures { result ≡ is_dash field.now }
-{
-    if field.len() != 1 {
-        return false;
-    }
-    field[0] == b'-'
-}
-
+#[tactic(auto, unfolding(crate::specs::Reading::is_run))]
 fn is_run(field: &[u8], width: usize, room: usize) -> bool
     requires { 0 < width }
     ensures { result ≡ is_run width room field.now }
 {
-    if field.len() == 0 {
-        return false;
-    }
-    if field.len() % width != 0 {
-        return false;
-    }
-    if room < field.len() / width {
-        return false;
-    }
-    are_digits(field)
+    !field.is_empty()
+        && field.len() % width == 0
+        && field.len() / width <= room
+        && are_digits(field)
 }
 
-// Element i of a run of digits, of width digits each.
-fn element(field: &[u8], width: usize, i: usize) -> u64
+// The number that element i of a run is, of width digits each.
+fn number_in(field: &[u8], width: usize, i: usize) -> u64
     requires { (are_digits field.now ≡ true) × (width ≤ 16) × (width * i + width ≤ length field.now) }
     ensures { (result ≡ element_of width field.now i) × (result < 16 ^ width) }
 {
     let from = width * i;
-    value(&field[from..from + width])
-}
-
-fn fill_floats(field: &[u8], n: usize, out: &mut [f32])
-    requires { IsRun 8 (length out.old) field.now n }
-    ensures { out.new ≡ over (floats_of field.now n) out.old }
-{
-    let mut i = 0;
-    while i < n {
-        out[i] = pattern::from_bits(element(field, 8, i) as u32);
-        i += 1;
-    }
-}
-
-fn fill_bytes(field: &[u8], n: usize, out: &mut [u8])
-    requires { IsRun 2 (length out.old) field.now n }
-    ensures { out.new ≡ over (bytes_of field.now n) out.old }
-{
-    let mut i = 0;
-    while i < n {
-        out[i] = element(field, 2, i) as u8;
-        i += 1;
-    }
+    value(&field[from..from + width]).unwrap()
 }

@@ -1,6 +1,6 @@
 use mathlib.Core.Bool.{Bool}
 use mathlib.Core.List.{List}
-use Prim.Native.Nat.{ℕ, ◌-◌}
+use Prim.Native.Nat.{ℕ}
 use Rattle.slot_keys.specs.Has.{key_at}
 use Rattle.listed.specs.Listing.{slot_line, half_in}
 use Rattle.listing_text.proofs.Lines.{Lines}
@@ -11,6 +11,3 @@ line_of keys keyed file i = slot_line i (key_at keys keyed i) (half_in file i)
 
 abbrev pub invariant-loop-slot : goal.invariant-loop-slot
 invariant-loop-slot l = Lines (line_of l.keys l.keyed l.file) l.n l.initial.out l.at l.out l.next l.slot
-
-abbrev pub decreases-loop-slot : goal.decreases-loop-slot
-decreases-loop-slot l = l.n - l.slot

@@ -1,11 +1,7 @@
-use mathlib.Core.Path.{◌≡◌}
-use Prim.Native.Nat.{◌-◌, ◌^◌, ◌≤◌, ◌<◌}
-use lib.ListN.{length, drop}
-use Rattle.values.specs.Reading.{value_after, value_of}
+use Rattle.std.proofs.Common.{◌≡◌, ◌^◌, ◌<◌, drop}
+use Rattle.values.specs.Reading.{are_digits, value_after, value_of}
 use Rattle.values.proofs.value.Given as goal
 
-abbrev pub invariant-loop-i : goal.invariant-loop-i
-invariant-loop-i l = (l.i ≤ length l.digits) × (l.v < 16 ^ l.i) × (value_after l.v (drop l.i l.digits) ≡ value_of l.digits)
-
-abbrev pub decreases-loop-i : goal.decreases-loop-i
-decreases-loop-i l = length l.digits - l.i
+abbrev pub invariant-loop-b : goal.invariant-loop-b
+invariant-loop-b l =
+    (l.v < 16 ^ l.b-index) × (value_after l.v (drop l.b-index l.digits) ≡ value_of l.digits) × (are_digits (drop l.b-index l.digits) ≡ are_digits l.digits)

@@ -1,5 +1,0 @@
-use Rattle.std.proofs.Common.{◌-◌}
-use Rattle.leaves.proofs.put_narrows.Given as goal
-
-abbrev pub decreases-loop-h : goal.decreases-loop-h
-decreases-loop-h l = l.to - l.h

@@ -1,2 +1,0 @@
--- A buffer in which bytes move to the front.
-mod Newlines
