@@ -4,7 +4,9 @@
 ghost use Rattle.std.specs.Prelude.{◌≡◌, true, false, cond, ◌*◌, ◌≤◌, length, drop, set, ltb};
 ghost use Rattle.lists.specs.Lists.{tab, over};
 ghost use Rattle.encode.specs.Header.{block_size};
-ghost use Rattle.index.specs.Arrays.{lent};
+ghost use Rattle.refusal.specs.Refusal.{fault_of};
+ghost use Rattle.index.specs.Lent.{contents, contents_mut, SameLent};
+ghost use Rattle.index.specs.Verdict.{verdict};
 ghost use Rattle.index.specs.State.{record_of, scales_of, blocks_of};
 ghost use Rattle.index.specs.Form.{stage_size};
 ghost use Rattle.index.specs.Read.{little_endian, form_in, header_in, count_in, head_fault, over_limits, first_length, second_length, stages_in, second_in, table_in, entry_count, scale_from, stage_from, entry_from, well_keyed, state_in, read_refusal, read_into};
@@ -13,7 +15,8 @@ ghost use Rattle.index.specs.Make.{begun};
 ghost use Rattle.read.specs.Table.{slots_from, word_from, on_from};
 ghost use Rattle.read.specs.Parts.{rest_short, keys_sound, body_fault};
 
-use index::{Form, Index, Made};
+use index::{Form, Index, Lent, LentMut};
+use refusal::Refusal;
 
 // ---- key entries
 
@@ -229,22 +232,22 @@ impl<'a> File<'a> {
 
     // The refusal that what follows the head gives; 0 for none.
     #[tactic(auto, unfolding(crate::specs::Parts::body_fault, index::specs::Step::first_of, index::specs::Read::header_in))]
-    fn fault(&self) -> u8
-        ensures { result ≡ body_fault self.now.bytes.now }
+    fn check(&self) -> Result<(), Refusal>
+        ensures { fault_of result ≡ body_fault self.now.bytes.now }
     {
         if self.first_stage().len() < self.stage_length() {
-            return 14;
+            return Err(Refusal::EndsEarly);
         }
         if header::head_in(self.bytes).header.dim == 0 {
-            return 17;
+            return Err(Refusal::FileDims);
         }
         if self.is_rest_short() {
-            return 14;
+            return Err(Refusal::EndsEarly);
         }
         if !self.is_keyed_soundly() {
-            return 19;
+            return Err(Refusal::KeyEntry);
         }
-        0
+        Ok(())
     }
 
     // ---- stages
@@ -288,71 +291,40 @@ impl<'a> File<'a> {
 
 // ---- the calls
 
-// The refusal of the file into these arrays, before anything is written: 14 to 20, in 01's order; 0 for none.
-pub fn read_fault(
-    codes: &[u8],
-    scales: &[u32],
-    keys: &[u64],
-    keyed: &[bool],
-    held: &[u32],
-    alive: &[u8],
-    codes2: &[u8],
-    scales2: &[u32],
-    file: &[u8],
-) -> u8
-    ensures { result ≡ read_refusal file.now
-        (lent codes.now scales.now keys.now keyed.now held.now alive.now codes2.now scales2.now) }
+// The refusal of the file into these arrays, before anything is written: 14 to 20, in 01's order.
+pub fn check(arrays: &Lent<'_>, file: &[u8]) -> Result<(), Refusal>
+    ensures { fault_of result ≡ read_refusal file.now (contents arrays.now) }
 {
-    let head = header::head_fault(file);
-    if head != 0 {
-        return head;
-    }
+    header::check(file)?;
     if over_limits(file) {
-        return 20;
+        return Err(Refusal::TooLarge);
     }
     let index = index_in(file);
-    let room = room::capacity(
-        index, codes, scales, keys, keyed, held, alive, codes2, scales2,
-    );
+    let room = room::capacity(index, arrays);
     if room < index.n {
-        return 20;
+        return Err(Refusal::TooLarge);
     }
-    file_in(file).fault()
+    file_in(file).check()
 }
 
 // The index that a file holds, into lent arrays. Refusals: 14 to 20.
-pub fn from_bytes(
-    codes: &mut [u8],
-    scales: &mut [u32],
-    keys: &mut [u64],
-    keyed: &mut [bool],
-    held: &mut [u32],
-    alive: &mut [u8],
-    codes2: &mut [u8],
-    scales2: &mut [u32],
-    file: &[u8],
-) -> Made
-    ensures { begun result (lent codes.new scales.new keys.new keyed.new held.new alive.new codes2.new scales2.new)
-        ≡ read_into (lent codes.old scales.old keys.old keyed.old held.old alive.old codes2.old scales2.old)
-        file.now }
+pub fn from_bytes(arrays: &mut LentMut<'_>, file: &[u8]) -> Result<Index, Refusal>
+    ensures same { SameLent arrays.old arrays.new }
+    ensures answers { begun (verdict result) (contents_mut arrays.new)
+        ≡ read_into (contents_mut arrays.old) file.now }
 {
-    let fault = read_fault(
-        codes, scales, keys, keyed, held, alive, codes2, scales2, file,
-    );
-    if fault != 0 {
-        return Made::Refused(fault);
-    }
+    check(&arrays.view(), file)?;
     let from = file_in(file);
-    from.read_stage(codes, scales, from.first_stage(), from.n);
+    from.read_stage(arrays.codes, arrays.scales, from.first_stage(), from.n);
     read_marks(
-        keys,
-        keyed,
-        held,
-        alive,
+        arrays.keys,
+        arrays.keyed,
+        arrays.held,
+        arrays.alive,
         from.table(),
         from.entry_count(),
         from.n as usize,
     );
-    from.read_stage(codes2, scales2, from.second_stage(), from.seconds());
-    Made::Index(index_in(file))
+    from.read_stage(arrays.codes2, arrays.scales2, from.second_stage(), from.seconds());
+    Ok(index_in(file))
 }

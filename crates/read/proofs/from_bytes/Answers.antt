@@ -1,37 +1,41 @@
-use Rattle.std.proofs.Common.{sym, ◌∙◌}
+use Rattle.std.proofs.Common.{rules, arith, ◌≡◌, Err, sym, ◌∙◌}
+use Rattle.refusal.proofs.Numbers.{above_0}
 use Rattle.read.proofs.Faults.{passed-head, read_none}
 use Rattle.read.proofs.Call.{first-room, marks-room, second-room, done}
 use Rattle.read.proofs.from_bytes.Goals as goal
 
-pub returns-then-fault-ne0 : goal.returns-then-fault-ne0
-returns-then-fault-ne0 c = read_none c.args.file.now _ _ c.read_fault-fault.ensures c.if-fault-ne0.true
+pub returns-in_err-check-clause-answers : goal.returns-in_err-check-clause-answers
+returns-in_err-check-clause-answers c =
+    let r = c.in_err-check.field-0.0 in
+    let k : c.from_residual.result ≡ Err r = search rules in
+    rw k (read_none c.args.file.now _ _ (rw c.view.ensures at c.in_err-check.ensures) (λ z. omega (arith, above_0 r, z)))
 
 pub file_in-from-requires : goal.file_in-from-requires
-file_in-from-requires c = passed-head c.args.file.now _ (sym c.read_fault-fault.ensures ∙ c.if-fault-ne0.false)
+file_in-from-requires c = passed-head c.args.file.now _ (sym (rw c.view.ensures at c.in_ok-check.ensures))
 
 pub read_stage-requires : goal.read_stage-requires
 read_stage-requires c =
-    let none = sym c.read_fault-fault.ensures ∙ c.if-fault-ne0.false in
+    let none = sym (rw c.view.ensures at c.in_ok-check.ensures) in
     let from = c.file_in-from.result in
     let room = first-room c.args.file.now _ none _ c.file_in-from.ensures _ _ _ from.form_is from.block_is from.count_is _ c.first_stage.ensures in
     record { room = room.0; bytes_fit = room.1 }
 
 pub read_marks-requires : goal.read_marks-requires
 read_marks-requires c =
-    let none = sym c.read_fault-fault.ensures ∙ c.if-fault-ne0.false in
+    let none = sym (rw c.view.ensures at c.in_ok-check.ensures) in
     let from = c.file_in-from.result in
     marks-room c.args.file.now _ none _ c.file_in-from.ensures _ _ _ from.form_is from.block_is from.count_is
 
 pub read_stage-requires-2 : goal.read_stage-requires-2
 read_stage-requires-2 c =
-    let none = sym c.read_fault-fault.ensures ∙ c.if-fault-ne0.false in
+    let none = sym (rw c.view.ensures at c.in_ok-check.ensures) in
     let from = c.file_in-from.result in
     let room = second-room c.args.file.now _ none _ c.file_in-from.ensures _ _ _ from.form_is from.block_is from.count_is _ _ c.second_stage.ensures c.seconds.ensures in
     record { room = room.0; bytes_fit = room.1 }
 
-pub returns : goal.returns
-returns c =
-    let none = sym c.read_fault-fault.ensures ∙ c.if-fault-ne0.false in
+pub returns-clause-answers : goal.returns-clause-answers
+returns-clause-answers c =
+    let none = sym (rw c.view.ensures at c.in_ok-check.ensures) in
     let from = c.file_in-from.result in
     let first = c.read_stage.ensures in
     let marks = c.read_marks.ensures in
