@@ -2,10 +2,11 @@
 //
 //     let mut lines = Lines::new(reader, buf);
 //     for _ in 0..u64::MAX {
-//         let Some(found) = lines.next_line() else {
-//             break;
-//         };
-//         .. lines.bytes(found) ..
+//         match lines.next_line() {
+//             None => break,
+//             Some(Ok(line)) => .. lines.bytes(line) ..,
+//             Some(Err(TooLong)) => ..,
+//         }
 //     }
 #![tactic(auto)]
 
@@ -35,7 +36,6 @@ pub struct Lines<'a, R> {
     pub buf: &'a mut [u8],
     // What was read and not handed out.
     pub unread: Span,
-    pub ghost inside: { Within (length buf.now) unread },
 }
 
 impl<'a, R: Read> Lines<'a, R> {
@@ -43,6 +43,8 @@ impl<'a, R: Read> Lines<'a, R> {
     pub fn new(reader: &'a mut R, buf: &'a mut [u8]) -> Lines<'a, R>
         ensures buffer { result.buf.now ≡ buf.old }
         ensures unread { result.unread ≡ no_span }
+        ensures same_buffer { result.buf.ghost_name ≡ buf.entry.ghost_name }
+        ensures same_reader { result.reader.ghost_name ≡ reader.entry.ghost_name }
     {
         Lines {
             reader,
@@ -63,9 +65,14 @@ impl<'a, R: Read> Lines<'a, R> {
     // The reader is read only where the buffer has no whole line more, and then once at a time, into all the room that there is: a line
     // is handed out as soon as its newline has come.
     pub fn next_line(&mut self) -> Option<Result<Span, TooLong>>
-        ensures { Handed self.new.buf.now result }
+        ensures line { Handed self.new.buf.now result }
+        ensures unread { Within (length self.new.buf.now) self.new.unread }
+        ensures length { length self.new.buf.now ≡ length self.old.buf.now }
+        ensures same_buffer { self.new.buf.ghost_name ≡ self.old.buf.ghost_name }
+        ensures same_reader { self.new.reader.ghost_name ≡ self.old.reader.ghost_name }
     {
-        let (line, unread) = next_in(self.reader, self.buf, self.unread);
+        let before = within(self.unread, self.buf.len());
+        let (line, unread) = next_in(self.reader, self.buf, before);
         self.unread = unread;
         line
     }
