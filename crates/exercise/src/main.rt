@@ -15,7 +15,8 @@
 
 ghost use Rattle.std.specs.Prelude.{◌≤◌};
 
-use index::{Added, Asked, Changed, Found, Held, Index, Keyed, Made, Written};
+use index::{Added, Index, Lent, LentMut};
+use refusal::Refusal;
 use lines::{Lines, Span, TooLong};
 use runs::InHex;
 use score::Scored;
@@ -120,17 +121,20 @@ fn answer_with_fresh<R: Read>(
     let f = lent.alive.min(4096);
     let g = lent.codes2.min(1048576);
     let h = lent.scales2.min(4096);
+    let mut arrays = LentMut {
+        codes: &mut codes[..a],
+        scales: &mut scales[..b],
+        keys: &mut keys[..c],
+        keyed: &mut keyed[..d],
+        held: &mut held[..e],
+        alive: &mut alive[..f],
+        codes2: &mut codes2[..g],
+        scales2: &mut scales2[..h],
+    };
     answer_lines(
         lines,
         out,
-        &mut codes[..a],
-        &mut scales[..b],
-        &mut keys[..c],
-        &mut keyed[..d],
-        &mut held[..e],
-        &mut alive[..f],
-        &mut codes2[..g],
-        &mut scales2[..h],
+        &mut arrays,
         state,
     )
 }
@@ -139,21 +143,14 @@ fn answer_with_fresh<R: Read>(
 fn answer_lines<R: Read>(
     lines: &mut Lines<'_, R>,
     out: &mut [u8],
-    codes: &mut [u8],
-    scales: &mut [u32],
-    keys: &mut [u64],
-    keyed: &mut [bool],
-    held: &mut [u32],
-    alive: &mut [u8],
-    codes2: &mut [u8],
-    scales2: &mut [u32],
+    arrays: &mut LentMut<'_>,
     first: State,
 ) -> Option<State> {
     let mut state = first;
     for _ in 0..u64::MAX {
         let found = lines.next_line()?;
         let next = turn(
-            lines, found, out, codes, scales, keys, keyed, held, alive, codes2, scales2, state,
+            lines, found, out, arrays, state,
         );
         state = next;
         if state.fresh {
@@ -168,14 +165,7 @@ fn turn<R: Read>(
     lines: &Lines<'_, R>,
     found: Result<Span, TooLong>,
     out: &mut [u8],
-    codes: &mut [u8],
-    scales: &mut [u32],
-    keys: &mut [u64],
-    keyed: &mut [bool],
-    held: &mut [u32],
-    alive: &mut [u8],
-    codes2: &mut [u8],
-    scales2: &mut [u32],
+    arrays: &mut LentMut<'_>,
     state: State,
 ) -> State {
     let index = state.index;
@@ -197,18 +187,11 @@ fn turn<R: Read>(
         call,
         query,
         &file[..m],
-        codes,
-        scales,
-        keys,
-        keyed,
-        held,
-        alive,
-        codes2,
-        scales2,
+        arrays,
         index,
     );
     let replied = answer(
-        call, done, query, out, codes, scales, keys, keyed, held, alive, codes2, scales2, index,
+        call, done, query, out, &arrays.view(), index,
     );
     print::print_line(out, replied.length);
     State {
@@ -595,9 +578,9 @@ fn length_at(line: &[u8], i: usize, most: u64) -> Option<usize> {
 enum Done {
     Nothing,
     Element(bool),
-    Record(Made),
-    Marks(Changed),
-    Slot(Added),
+    Record(Result<Index, Refusal>),
+    Marks(Result<Option<Index>, Refusal>),
+    Slot(Result<Added, Refusal>),
 }
 
 // The calls that change the arrays; no other line does. They all start here, since to prove that arrays are passed on to be changed takes longest.
@@ -605,47 +588,33 @@ fn change(
     call: Call,
     vector: &[f32],
     file: &[u8],
-    codes: &mut [u8],
-    scales: &mut [u32],
-    keys: &mut [u64],
-    keyed: &mut [bool],
-    held: &mut [u32],
-    alive: &mut [u8],
-    codes2: &mut [u8],
-    scales2: &mut [u32],
+    arrays: &mut LentMut<'_>,
     index: Index,
 ) -> Done {
     match call.command {
         Command::Set(array) => Done::Element(set_element(
-            codes,
-            scales,
-            keys,
-            keyed,
-            held,
-            alive,
-            codes2,
-            scales2,
+            arrays,
             array,
             call.a as usize,
             call.b,
         )),
         Command::Compact => Done::Record(compact::compact(
-            index, codes, scales, keys, keyed, held, alive, codes2, scales2,
+            index, arrays,
         )),
         Command::Relabel | Command::Remove | Command::RemoveAt => Done::Marks(change_marks(
-            call, codes, scales, keys, keyed, held, alive, codes2, scales2, index,
+            call, arrays, index,
         )),
         Command::Add => Done::Slot(add::add(
-            index, codes, scales, keys, keyed, held, alive, codes2, scales2, vector,
+            index, arrays, vector,
         )),
         Command::AddKeyed => Done::Slot(add_keyed::add_keyed(
-            index, codes, scales, keys, keyed, held, alive, codes2, scales2, call.a, vector,
+            index, arrays, call.a, vector,
         )),
         Command::AddMulti => Done::Slot(add_multi::add_keyed_multi(
-            index, codes, scales, keys, keyed, held, alive, codes2, scales2, call.a, vector,
+            index, arrays, call.a, vector,
         )),
         Command::Read => Done::Record(read::from_bytes(
-            codes, scales, keys, keyed, held, alive, codes2, scales2, file,
+            arrays, file,
         )),
         _ => Done::Nothing,
     }
@@ -654,33 +623,19 @@ fn change(
 // Relabelling and the removals, which leave codes and scales alone.
 fn change_marks(
     call: Call,
-    codes: &[u8],
-    scales: &[u32],
-    keys: &mut [u64],
-    keyed: &mut [bool],
-    held: &mut [u32],
-    alive: &mut [u8],
-    codes2: &[u8],
-    scales2: &[u32],
+    arrays: &mut LentMut<'_>,
     index: Index,
-) -> Changed {
+) -> Result<Option<Index>, Refusal> {
     match call.command {
         Command::Relabel => relabel::relabel(
-            index, codes, scales, keys, keyed, held, alive, codes2, scales2, call.a, call.b,
+            index, arrays.codes, arrays.scales, arrays.keys, arrays.keyed, arrays.held, arrays.alive, arrays.codes2, arrays.scales2, call.a, call.b,
         ),
         Command::Remove => removal::remove_keyed(
-            index, codes, scales, keys, keyed, held, alive, codes2, scales2, call.a,
+            index, arrays.codes, arrays.scales, arrays.keys, arrays.keyed, arrays.held, arrays.alive, arrays.codes2, arrays.scales2, call.a,
         ),
         _ => removal::remove_keyed_at(
             index,
-            codes,
-            scales,
-            keys,
-            keyed,
-            held,
-            alive,
-            codes2,
-            scales2,
+            arrays.codes, arrays.scales, arrays.keys, arrays.keyed, arrays.held, arrays.alive, arrays.codes2, arrays.scales2,
             call.a,
             call.b as usize,
         ),
@@ -689,27 +644,20 @@ fn change_marks(
 
 // Sets an element, where the array has it and its type holds the value.
 fn set_element(
-    codes: &mut [u8],
-    scales: &mut [u32],
-    keys: &mut [u64],
-    keyed: &mut [bool],
-    held: &mut [u32],
-    alive: &mut [u8],
-    codes2: &mut [u8],
-    scales2: &mut [u32],
+    arrays: &mut LentMut<'_>,
     array: Array,
     i: usize,
     x: u64,
 ) -> bool {
     match array {
-        Array::Codes => poke(codes, i, x),
-        Array::Scales => poke(scales, i, x),
-        Array::Keys => poke(keys, i, x),
-        Array::Keyed => poke(keyed, i, x),
-        Array::Held => poke(held, i, x),
-        Array::Alive => poke(alive, i, x),
-        Array::Codes2 => poke(codes2, i, x),
-        Array::Scales2 => poke(scales2, i, x),
+        Array::Codes => poke(arrays.codes, i, x),
+        Array::Scales => poke(arrays.scales, i, x),
+        Array::Keys => poke(arrays.keys, i, x),
+        Array::Keyed => poke(arrays.keyed, i, x),
+        Array::Held => poke(arrays.held, i, x),
+        Array::Alive => poke(arrays.alive, i, x),
+        Array::Codes2 => poke(arrays.codes2, i, x),
+        Array::Scales2 => poke(arrays.scales2, i, x),
     }
 }
 
@@ -768,45 +716,38 @@ fn answer(
     done: Done,
     vector: &[f32],
     out: &mut [u8],
-    codes: &[u8],
-    scales: &[u32],
-    keys: &[u64],
-    keyed: &[bool],
-    held: &[u32],
-    alive: &[u8],
-    codes2: &[u8],
-    scales2: &[u32],
+    arrays: &Lent<'_>,
     index: Index,
 ) -> Replied {
     match call.command {
         Command::Dump => Replied {
             index: index,
             length: dump(
-                out, codes, scales, keys, keyed, held, alive, codes2, scales2, index,
+                out, arrays, index,
             ),
         },
         Command::Search | Command::SearchCascade => Replied {
             index: index,
             length: list_slots(
-                call, vector, out, codes, scales, keys, keyed, held, alive, codes2, scales2, index,
+                call, vector, out, arrays, index,
             ),
         },
         Command::SearchKeyed => Replied {
             index: index,
             length: list_keys(
-                call, vector, out, codes, scales, keys, keyed, held, alive, codes2, scales2, index,
+                call, vector, out, arrays, index,
             ),
         },
         Command::Write => Replied {
             index: index,
             length: write_file(
-                call, out, codes, scales, keys, keyed, held, alive, codes2, scales2, index,
+                call, out, arrays, index,
             ),
         },
         _ => put_outcome(
             out,
             ask(
-                call, done, vector, codes, scales, keys, keyed, held, alive, codes2, scales2, index,
+                call, done, vector, arrays, index,
             ),
         ),
     }
@@ -817,57 +758,34 @@ fn ask(
     call: Call,
     done: Done,
     vector: &[f32],
-    codes: &[u8],
-    scales: &[u32],
-    keys: &[u64],
-    keyed: &[bool],
-    held: &[u32],
-    alive: &[u8],
-    codes2: &[u8],
-    scales2: &[u32],
+    arrays: &Lent<'_>,
     index: Index,
 ) -> Outcome {
     match call.command {
         Command::New | Command::Working | Command::Residual | Command::Bits | Command::Enable =>
             after_made(
                 make_or_set(
-                    call, codes, scales, keys, keyed, held, alive, codes2, scales2, index,
+                    call, arrays, index,
                 ),
                 index,
             ),
         Command::KeyOf => Outcome {
             index: index,
-            reply: of_key(keys::key_of(
-                index,
-                codes,
-                scales,
-                keys,
-                keyed,
-                held,
-                alive,
-                codes2,
-                scales2,
+            reply: of_key(keys::key_of(index, arrays,
                 call.a as usize,
             )),
         },
         Command::Contains => Outcome {
             index: index,
             reply: of_asked(keys::contains_key(
-                index, codes, scales, keys, keyed, held, alive, codes2, scales2, call.a,
+                index, arrays, call.a,
             )),
         },
         Command::SlotAt => Outcome {
             index: index,
             reply: of_held(keys::slot_at(
                 index,
-                codes,
-                scales,
-                keys,
-                keyed,
-                held,
-                alive,
-                codes2,
-                scales2,
+                arrays,
                 call.a,
                 call.b as usize,
             )),
@@ -876,14 +794,7 @@ fn ask(
             index: index,
             reply: of_score(score_slot::score(
                 index,
-                codes,
-                scales,
-                keys,
-                keyed,
-                held,
-                alive,
-                codes2,
-                scales2,
+                arrays,
                 call.a as usize,
                 vector,
             )),
@@ -891,7 +802,7 @@ fn ask(
         Command::Length => Outcome {
             index: index,
             reply: of_length(layout::file_length(
-                index, codes, scales, keys, keyed, held, alive, codes2, scales2,
+                index, arrays,
             )),
         },
         _ => after(call, done, index),
@@ -901,28 +812,14 @@ fn ask(
 // The calls that make or set a record, and only read the arrays.
 fn make_or_set(
     call: Call,
-    codes: &[u8],
-    scales: &[u32],
-    keys: &[u64],
-    keyed: &[bool],
-    held: &[u32],
-    alive: &[u8],
-    codes2: &[u8],
-    scales2: &[u32],
+    arrays: &Lent<'_>,
     index: Index,
-) -> Made {
+) -> Result<Index, Refusal> {
     if call.command == Command::New {
         return make::new(
             call.a as usize,
             call.b,
-            codes,
-            scales,
-            keys,
-            keyed,
-            held,
-            alive,
-            codes2,
-            scales2,
+            arrays,
         );
     }
     if call.command == Command::Working {
@@ -930,46 +827,25 @@ fn make_or_set(
             call.a as usize,
             call.b as usize,
             call.c,
-            codes,
-            scales,
-            keys,
-            keyed,
-            held,
-            alive,
-            codes2,
-            scales2,
+            arrays,
         );
     }
     if call.command == Command::Residual {
         return make::with_residual(
             call.a as usize,
             call.b,
-            codes,
-            scales,
-            keys,
-            keyed,
-            held,
-            alive,
-            codes2,
-            scales2,
+            arrays,
         );
     }
     if call.command == Command::Bits {
         return settings::set_bits(
             index,
-            codes,
-            scales,
-            keys,
-            keyed,
-            held,
-            alive,
-            codes2,
-            scales2,
+            arrays,
             low_byte(call.a),
         );
     }
     settings::enable_cascade(
-        index, codes, scales, keys, keyed, held, alive, codes2, scales2,
+        index, arrays,
     )
 }
 
@@ -977,27 +853,27 @@ fn low_byte(n: u64) -> u8 {
     (n % 256) as u8
 }
 
-fn of_key(key: Keyed) -> Reply {
+fn of_key(key: Result<Option<u64>, Refusal>) -> Reply {
     match key {
-        Keyed::Key(k) => Reply::Key(k),
-        Keyed::None => Reply::None,
-        Keyed::Refused(n) => Reply::Refused(n),
+        Ok(Some(k)) => Reply::Key(k),
+        Ok(None) => Reply::None,
+        Err(refusal) => Reply::Refused(u8::from(refusal)),
     }
 }
 
-fn of_asked(asked: Asked) -> Reply {
+fn of_asked(asked: Result<bool, Refusal>) -> Reply {
     match asked {
-        Asked::Yes => Reply::Yes,
-        Asked::No => Reply::No,
-        Asked::Refused(n) => Reply::Refused(n),
+        Ok(true) => Reply::Yes,
+        Ok(false) => Reply::No,
+        Err(refusal) => Reply::Refused(u8::from(refusal)),
     }
 }
 
-fn of_held(held: Held) -> Reply {
+fn of_held(held: Result<Option<usize>, Refusal>) -> Reply {
     match held {
-        Held::Slot(i) => Reply::Slot(i),
-        Held::None => Reply::None,
-        Held::Refused(n) => Reply::Refused(n),
+        Ok(Some(i)) => Reply::Slot(i),
+        Ok(None) => Reply::None,
+        Err(refusal) => Reply::Refused(u8::from(refusal)),
     }
 }
 
@@ -1008,10 +884,10 @@ fn of_score(scored: Scored) -> Reply {
     }
 }
 
-fn of_length(length: Written) -> Reply {
+fn of_length(length: Result<usize, Refusal>) -> Reply {
     match length {
-        Written::Bytes(n) => Reply::Length(n),
-        Written::Refused(n) => Reply::Refused(n),
+        Ok(n) => Reply::Length(n),
+        Err(refusal) => Reply::Refused(u8::from(refusal)),
     }
 }
 
@@ -1027,7 +903,7 @@ const SCORE_MARK: f32 = 1.0;
 const BYTE_MARK: u8 = 0xFF;
 
 // The slots as numbers of the size of keys.
-fn put_slots(out: &mut [u8], found: Found, slots: &[u32], scores: &[f32]) -> usize {
+fn put_slots(out: &mut [u8], found: Result<usize, Refusal>, slots: &[u32], scores: &[f32]) -> usize {
     let mut numbers = [0u64; 4096];
     for (number, slot) in numbers.iter_mut().zip(slots) {
         *number = *slot as u64;
@@ -1040,14 +916,7 @@ fn list_slots(
     call: Call,
     vector: &[f32],
     out: &mut [u8],
-    codes: &[u8],
-    scales: &[u32],
-    keys: &[u64],
-    keyed: &[bool],
-    held: &[u32],
-    alive: &[u8],
-    codes2: &[u8],
-    scales2: &[u32],
+    arrays: &Lent<'_>,
     index: Index,
 ) -> usize {
     let mut slots = [SLOT_MARK; 4096];
@@ -1057,14 +926,7 @@ fn list_slots(
         call,
         vector,
         out,
-        codes,
-        scales,
-        keys,
-        keyed,
-        held,
-        alive,
-        codes2,
-        scales2,
+        arrays,
         index,
         &mut slots[..n],
         &mut scores[..n],
@@ -1075,14 +937,7 @@ fn search_slots(
     call: Call,
     vector: &[f32],
     out: &mut [u8],
-    codes: &[u8],
-    scales: &[u32],
-    keys: &[u64],
-    keyed: &[bool],
-    held: &[u32],
-    alive: &[u8],
-    codes2: &[u8],
-    scales2: &[u32],
+    arrays: &Lent<'_>,
     index: Index,
     slots: &mut [u32],
     scores: &mut [f32],
@@ -1090,14 +945,7 @@ fn search_slots(
     if call.command == Command::Search {
         let found = search::search(
             index,
-            codes,
-            scales,
-            keys,
-            keyed,
-            held,
-            alive,
-            codes2,
-            scales2,
+            arrays,
             vector,
             call.a as usize,
             slots,
@@ -1107,14 +955,7 @@ fn search_slots(
     }
     let found = search_cascade::search_cascade(
         index,
-        codes,
-        scales,
-        keys,
-        keyed,
-        held,
-        alive,
-        codes2,
-        scales2,
+        arrays,
         vector,
         call.a as usize,
         call.b as usize,
@@ -1128,14 +969,7 @@ fn list_keys(
     call: Call,
     vector: &[f32],
     out: &mut [u8],
-    codes: &[u8],
-    scales: &[u32],
-    keys: &[u64],
-    keyed: &[bool],
-    held: &[u32],
-    alive: &[u8],
-    codes2: &[u8],
-    scales2: &[u32],
+    arrays: &Lent<'_>,
     index: Index,
 ) -> usize {
     let mut names = [KEY_MARK; 4096];
@@ -1145,14 +979,7 @@ fn list_keys(
         call,
         vector,
         out,
-        codes,
-        scales,
-        keys,
-        keyed,
-        held,
-        alive,
-        codes2,
-        scales2,
+        arrays,
         index,
         &mut names[..n],
         &mut scores[..n],
@@ -1163,28 +990,14 @@ fn search_keys(
     call: Call,
     vector: &[f32],
     out: &mut [u8],
-    codes: &[u8],
-    scales: &[u32],
-    keys: &[u64],
-    keyed: &[bool],
-    held: &[u32],
-    alive: &[u8],
-    codes2: &[u8],
-    scales2: &[u32],
+    arrays: &Lent<'_>,
     index: Index,
     names: &mut [u64],
     scores: &mut [f32],
 ) -> usize {
     let found = search_keyed::search_keyed(
         index,
-        codes,
-        scales,
-        keys,
-        keyed,
-        held,
-        alive,
-        codes2,
-        scales2,
+        arrays,
         vector,
         call.a as usize,
         names,
@@ -1196,28 +1009,14 @@ fn search_keys(
 fn write_file(
     call: Call,
     out: &mut [u8],
-    codes: &[u8],
-    scales: &[u32],
-    keys: &[u64],
-    keyed: &[bool],
-    held: &[u32],
-    alive: &[u8],
-    codes2: &[u8],
-    scales2: &[u32],
+    arrays: &Lent<'_>,
     index: Index,
 ) -> usize {
     let mut file = [BYTE_MARK; 65536];
     let n = (call.a as usize).min(65536);
     write_into(
         out,
-        codes,
-        scales,
-        keys,
-        keyed,
-        held,
-        alive,
-        codes2,
-        scales2,
+        arrays,
         index,
         &mut file[..n],
     )
@@ -1225,19 +1024,12 @@ fn write_file(
 
 fn write_into(
     out: &mut [u8],
-    codes: &[u8],
-    scales: &[u32],
-    keys: &[u64],
-    keyed: &[bool],
-    held: &[u32],
-    alive: &[u8],
-    codes2: &[u8],
-    scales2: &[u32],
+    arrays: &Lent<'_>,
     index: Index,
     file: &mut [u8],
 ) -> usize {
     let written = write::to_bytes(
-        index, codes, scales, keys, keyed, held, alive, codes2, scales2, file,
+        index, arrays, file,
     );
     put_file(out, written, file)
 }
@@ -1336,45 +1128,45 @@ fn after_set(done: bool, index: Index) -> Outcome {
     }
 }
 
-fn after_made(made: Made, index: Index) -> Outcome {
+fn after_made(made: Result<Index, Refusal>, index: Index) -> Outcome {
     match made {
-        Made::Index(x) => Outcome {
+        Ok(x) => Outcome {
             index: x,
             reply: Reply::Ok,
         },
-        Made::Refused(n) => Outcome {
+        Err(refusal) => Outcome {
             index: index,
-            reply: Reply::Refused(n),
+            reply: Reply::Refused(u8::from(refusal)),
         },
     }
 }
 
-fn after_changed(changed: Changed, index: Index) -> Outcome {
+fn after_changed(changed: Result<Option<Index>, Refusal>, index: Index) -> Outcome {
     match changed {
-        Changed::Yes(x) => Outcome {
+        Ok(Some(x)) => Outcome {
             index: x,
             reply: Reply::Yes,
         },
-        Changed::No => Outcome {
+        Ok(None) => Outcome {
             index: index,
             reply: Reply::No,
         },
-        Changed::Refused(n) => Outcome {
+        Err(refusal) => Outcome {
             index: index,
-            reply: Reply::Refused(n),
+            reply: Reply::Refused(u8::from(refusal)),
         },
     }
 }
 
-fn after_added(added: Added, index: Index) -> Outcome {
+fn after_added(added: Result<Added, Refusal>, index: Index) -> Outcome {
     match added {
-        Added::Slot(i, x) => Outcome {
-            index: x,
-            reply: Reply::Slot(i),
+        Ok(added) => Outcome {
+            index: added.index,
+            reply: Reply::Slot(added.slot),
         },
-        Added::Refused(n) => Outcome {
+        Err(refusal) => Outcome {
             index: index,
-            reply: Reply::Refused(n),
+            reply: Reply::Refused(u8::from(refusal)),
         },
     }
 }
@@ -1461,35 +1253,35 @@ fn put_hits(out: &mut [u8], at: usize, numbers: &[u64], scores: &[f32], n: usize
 }
 
 // How many places an answer takes.
-fn places_taken(found: Found) -> usize {
+fn places_taken(found: Result<usize, Refusal>) -> usize {
     match found {
-        Found::Hits(n) => n,
-        Found::Refused(_) => 0,
+        Ok(n) => n,
+        Err(_) => 0,
     }
 }
 
-fn put_found(out: &mut [u8], found: Found, numbers: &[u64], mark: u64, scores: &[f32]) -> usize {
+fn put_found(out: &mut [u8], found: Result<usize, Refusal>, numbers: &[u64], mark: u64, scores: &[f32]) -> usize {
     let taken = places_taken(found);
     let at = put_spilt(
         out,
         numbers_kept(numbers, taken, mark) && scores_kept(scores, taken),
     );
     match found {
-        Found::Hits(n) => put_hits(out, at, numbers, scores, n),
-        Found::Refused(n) => put_refused(out, at, n),
+        Ok(n) => put_hits(out, at, numbers, scores, n),
+        Err(refusal) => put_refused(out, at, u8::from(refusal)),
     }
 }
 
-fn put_file(out: &mut [u8], written: Written, file: &[u8]) -> usize {
+fn put_file(out: &mut [u8], written: Result<usize, Refusal>, file: &[u8]) -> usize {
     match written {
-        Written::Bytes(n) => {
+        Ok(n) => {
             let at = put_spilt(out, bytes_kept(file, n));
             let next = print::put_bytes(out, at, b"bytes ");
             runs::put_run(out, next, &file[..n.min(file.len())])
         }
-        Written::Refused(n) => {
+        Err(refusal) => {
             let at = put_spilt(out, bytes_kept(file, 0));
-            put_refused(out, at, n)
+            put_refused(out, at, u8::from(refusal))
         }
     }
 }
@@ -1499,35 +1291,20 @@ fn put_file(out: &mut [u8], written: Written, file: &[u8]) -> usize {
 // Prints the record and the arrays piece by piece, but for the newline. Nothing is left in out.
 fn dump(
     out: &mut [u8],
-    codes: &[u8],
-    scales: &[u32],
-    keys: &[u64],
-    keyed: &[bool],
-    held: &[u32],
-    alive: &[u8],
-    codes2: &[u8],
-    scales2: &[u32],
+    arrays: &Lent<'_>,
     index: Index,
 ) -> usize {
     let n = put_record(out, index);
     flush(out, n);
-    print_slots(out, codes, scales, keys, keyed);
-    print_marks(out, held, alive, codes2, scales2);
+    print_array(out, b" codes ", arrays.codes);
+    print_array(out, b" scales ", arrays.scales);
+    print_array(out, b" keys ", arrays.keys);
+    print_array(out, b" keyed ", arrays.keyed);
+    print_array(out, b" held ", arrays.held);
+    print_array(out, b" alive ", arrays.alive);
+    print_array(out, b" codes2 ", arrays.codes2);
+    print_array(out, b" scales2 ", arrays.scales2);
     0
-}
-
-fn print_slots(out: &mut [u8], codes: &[u8], scales: &[u32], keys: &[u64], keyed: &[bool]) {
-    print_array(out, b" codes ", codes);
-    print_array(out, b" scales ", scales);
-    print_array(out, b" keys ", keys);
-    print_array(out, b" keyed ", keyed);
-}
-
-fn print_marks(out: &mut [u8], held: &[u32], alive: &[u8], codes2: &[u8], scales2: &[u32]) {
-    print_array(out, b" held ", held);
-    print_array(out, b" alive ", alive);
-    print_array(out, b" codes2 ", codes2);
-    print_array(out, b" scales2 ", scales2);
 }
 
 fn put_record(out: &mut [u8], index: Index) -> usize {

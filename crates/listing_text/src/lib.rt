@@ -12,29 +12,22 @@
 
 ghost use Rattle.std.specs.Prelude.{◌≡◌, [], ◌∷◌, ◌++◌, ℕ, ◌%◌, ◌≤◌, ◌<◌, length};
 ghost use Rattle.print.specs.Printed.{Prints};
+ghost use Rattle.refusal.specs.Refusal.{fault_of};
 ghost use Rattle.slot_keys.specs.Has.{key_at};
 ghost use Rattle.index.specs.Step.{first_of};
 ghost use Rattle.index.specs.Read.{version_in, count_in, header_in, head_fault, key_from, entries_in, read_refusal};
-ghost use Rattle.listed.specs.Listing.{room, next_number, head_line, key_text, upper_digit, half_text, slot_line, refusal_line, half_in, lines_of, text_unless, listing_text, refusal_of};
+ghost use Rattle.listed.specs.Listing.{room, next_number, head_line, key_text, upper_digit, half_text, slot_line, refusal_line, half_in, lines_of, text_unless, listing_text};
 
-use index::Made;
+use index::LentMut;
+use refusal::Refusal;
 
 // ---- reading
 
-fn refusal_of(made: Made) -> u8
-    ensures { result ≡ refusal_of made }
-{
-    match made {
-        Made::Index(_) => 0,
-        Made::Refused(number) => number,
-    }
-}
-
-// The refusal of the file, 0 for none; where there is none, the arrays have the keys of its slots.
-fn read_keys(keys: &mut [u64], keyed: &mut [bool], file: &[u8]) -> u8
+// The refusal of the file; where there is none, the arrays have the keys of its slots.
+fn read_keys(keys: &mut [u64], keyed: &mut [bool], file: &[u8]) -> Result<(), Refusal>
     requires { (length keys.old ≡ 1024) × (length keyed.old ≡ 1024) }
-    ensures refusal { result ≡ read_refusal file.now room }
-    ensures keys_after { result ≡ 0 → (i : ℕ) → i < count_in file.now → key_at keys.new keyed.new i ≡ key_from (entries_in file.now) i }
+    ensures refusal { fault_of result ≡ read_refusal file.now room }
+    ensures keys_after { fault_of result ≡ 0 → (i : ℕ) → i < count_in file.now → key_at keys.new keyed.new i ≡ key_from (entries_in file.now) i }
 {
     let mut codes = [0u8; 32768];
     let mut scales = [0u32; 1024];
@@ -42,18 +35,18 @@ fn read_keys(keys: &mut [u64], keyed: &mut [bool], file: &[u8]) -> u8
     let mut alive = [0u8; 1024];
     let mut codes2 = [0u8; 32768];
     let mut scales2 = [0u32; 1024];
-    let made = read::from_bytes(
-        &mut codes,
-        &mut scales,
+    let mut arrays = LentMut {
+        codes: &mut codes,
+        scales: &mut scales,
         keys,
         keyed,
-        &mut held,
-        &mut alive,
-        &mut codes2,
-        &mut scales2,
-        file,
-    );
-    refusal_of(made)
+        held: &mut held,
+        alive: &mut alive,
+        codes2: &mut codes2,
+        scales2: &mut scales2,
+    };
+    read::from_bytes(&mut arrays, file)?;
+    Ok(())
 }
 
 // The refusal of a file that is too long: that of its head, else 20, since nothing after the head is tested before 20.
@@ -61,8 +54,10 @@ fn read_keys(keys: &mut [u64], keyed: &mut [bool], file: &[u8]) -> u8
 fn long_refusal(file: &[u8]) -> u8
     ensures { result ≡ first_of (head_fault file.now ∷ 20 ∷ []) }
 {
-    let number = header::head_fault(file);
-    if number == 0 { 20 } else { number }
+    match header::check(file) {
+        Err(refusal) => u8::from(refusal),
+        Ok(()) => 20,
+    }
 }
 
 // The first scale of a slot as a half: as the file has it, so that a NaN stays as it stands. A binary32 scale is rounded.
@@ -171,12 +166,11 @@ fn put_read(out: &mut [u8], file: &[u8]) -> usize
 {
     let mut keys = [0u64; 1024];
     let mut keyed = [false; 1024];
-    let number = read_keys(&mut keys, &mut keyed, file);
-    if number == 0 {
-        let at = put_head(out, file);
-        return put_slots(out, at, &keys, &keyed, file);
+    if let Err(refusal) = read_keys(&mut keys, &mut keyed, file) {
+        return put_refusal(out, u8::from(refusal));
     }
-    put_refusal(out, number)
+    let at = put_head(out, file);
+    put_slots(out, at, &keys, &keyed, file)
 }
 
 // Puts the text at the front of out and answers the place after it. What has no room is cut off: 65,536 places are enough (`TextFits` of `listed`).
