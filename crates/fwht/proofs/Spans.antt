@@ -16,7 +16,7 @@ use Rattle.fwht.proofs.Passes.{pass-length}
 
 -- a power of two is whole blocks of each lower one
 power-blocks : (j k : ℕ) → j ≤ k → Blocks (2 ^ j) (2 ^ k)
-power-blocks j k l = record { positive = pow_pos j; some = pow_mono l; count = (2 ^ (k - j), ap (λ (z : ℕ). 2 ^ z) {y = k - j + j} (omega arith) ∙ pow-add 2 (k - j) j) }
+power-blocks j k l = record { positive = pow_pos j; count = (2 ^ (k - j), ap (λ (z : ℕ). 2 ^ z) {y = k - j + j} (omega arith) ∙ pow-add 2 (k - j) j) }
 
 module _ {A : Type 0} (d : A) (plus minus : A → A → A) where
   pub passes-length : (k : ℕ) (v : List A) → length (passes d plus minus k v) ≡ length v
@@ -70,6 +70,9 @@ module _ {A : Type 0} (d : A) (plus minus : A → A → A) where
 
       pub spanned-blocks : Blocks (2 ^ suc k * h) (length w)
       spanned-blocks = rw (power, spanned-length, ← s.power) (power-blocks (suc k + s.count) (exponent (length v)) further)
+
+      pub spanned-some : 2 ^ suc k * h ≤ length w
+      spanned-some = rw (power, spanned-length, ← s.power) (pow_mono further)
 
       pub spanned-more : (x : List A) → x ≡ spans d plus minus h (suc k) w → Spanned d plus minus v x (2 ^ suc k * h)
       spanned-more x p =

@@ -3,10 +3,9 @@ use Rattle.std.specs.Prelude.{List, [], ◌∷◌, ◌≡◌, ℕ, zero, suc, �
 use Rattle.padding.specs.Padded.{exponent}
 use Rattle.fwht.specs.Fwht.{pass, passes}
 
--- n places are whole blocks of m places, one or more
+-- n places are whole blocks of m places
 pub record Blocks (m n : ℕ) : Type 0 where
   pub positive : 0 < m
-  pub some : m ≤ n
   pub count : (c : ℕ) × (n ≡ c * m)
 
 -- v with the entries xs at the places j, j + h, j + 2 * h, ..

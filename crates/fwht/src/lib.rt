@@ -1,7 +1,7 @@
 // The fast Walsh-Hadamard transform of vecq's rhdh.rs, in place.
 #![tactic(auto)]
 
-ghost use Rattle.std.specs.Prelude.{◌≡◌, ℕ, ◌+◌, ◌*◌, ◌^◌, ◌<◌, length, refl};
+ghost use Rattle.std.specs.Prelude.{◌≡◌, ℕ, ◌+◌, ◌*◌, ◌^◌, ◌<◌, ◌≤◌, length, refl};
 ghost use Rattle.padding.specs.Padded.{exponent};
 ghost use Rattle.fwht.specs.InPlace.{Blocks};
 ghost use Rattle.fwht.specs.Binary32.{fwht32, spans32, turned32, Spanned32};
@@ -139,7 +139,8 @@ fn over_columns<T: Turn>(v: &mut [f32], h: usize)
 // The passes at a turn's spans over all places, block after block.
 // By the blocks' places: what `chunks_exact_mut` lends says nothing of the entries afterwards.
 fn over_blocks<T: Turn>(v: &mut [f32], h: usize)
-    requires { Blocks (2 ^ T.spans * h) (length v.old) }
+    requires whole { Blocks (2 ^ T.spans * h) (length v.old) }
+    requires some { 2 ^ T.spans * h ≤ length v.old }
     ensures { v.new ≡ spans32 h T.spans v.old }
 {
     let size = T::PLACES * h;

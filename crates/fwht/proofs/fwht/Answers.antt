@@ -1,7 +1,7 @@
 use mathlib.Core.Path.{sym, ◌∙◌}
 use native.Mathlib.Omega.{arith}
 use Rattle.padding.proofs.Powers.{padded-pow, padded-fixed}
-use Rattle.fwht.proofs.Spans.{fwht-other, spanned-length, spanned-positive, spanned-blocks, spanned-more, spanned-end}
+use Rattle.fwht.proofs.Spans.{fwht-other, spanned-length, spanned-positive, spanned-blocks, spanned-some, spanned-more, spanned-end}
 use Rattle.fwht.proofs.fwht.Goals as goal
 
 pub returns-then-padded_dim-n : goal.returns-then-padded_dim-n
@@ -11,7 +11,9 @@ pub first_spans-h-requires : goal.first_spans-h-requires
 first_spans-h-requires c = padded-fixed _ (omega arith) (sym c.padded_dim.ensures ∙ c.if-padded_dim-n.false)
 
 pub over_blocks-requires : goal.over_blocks-requires
-over_blocks-requires c = spanned-blocks _ _ _ _ _ _ c.loop-h.invariant 1 (omega arith)
+over_blocks-requires c =
+    let s = c.loop-h.invariant in
+    record { whole = spanned-blocks _ _ _ _ _ _ s 1 (omega arith); some = spanned-some _ _ _ _ _ _ s 1 (omega arith) }
 
 pub loop-h-preserved : goal.loop-h-preserved
 loop-h-preserved c =
@@ -19,7 +21,9 @@ loop-h-preserved c =
     spanned-more _ _ _ _ _ _ s 1 (omega (arith, spanned-length _ _ _ _ _ _ s)) _ c.over_blocks.ensures
 
 pub over_blocks-requires-then-h-n : goal.over_blocks-requires-then-h-n
-over_blocks-requires-then-h-n c = spanned-blocks _ _ _ _ _ _ c.loop-h.invariant 0 (omega arith)
+over_blocks-requires-then-h-n c =
+    let s = c.loop-h.invariant in
+    record { whole = spanned-blocks _ _ _ _ _ _ s 0 (omega arith); some = spanned-some _ _ _ _ _ _ s 0 (omega arith) }
 
 pub returns-then-h-n : goal.returns-then-h-n
 returns-then-h-n c =

@@ -8,14 +8,14 @@ loop-i-init g c = walked_none _ _ _ _ _ _
 
 pub slice_bounds-over_columns-end : goal.slice_bounds-over_columns-end
 slice_bounds-over_columns-end g c =
-    omega (arith, walked_fits _ _ _ _ _ _ _ _ c.loop-i.invariant _ (c.PLACES.ensures ∙ g.met.T.Turn.places) c.requires c.loop-i-test.true)
+    omega (arith, walked_fits _ _ _ _ _ _ _ _ c.loop-i.invariant _ (c.PLACES.ensures ∙ g.met.T.Turn.places) c.requires.whole c.loop-i-test.true)
 
 pub loop-i-preserved : goal.loop-i-preserved
-loop-i-preserved g c = walked_more _ _ _ _ _ _ _ _ c.loop-i.invariant _ (c.PLACES.ensures ∙ g.met.T.Turn.places) c.requires c.loop-i-test.true _ c.over_columns.ensures
+loop-i-preserved g c = walked_more _ _ _ _ _ _ _ _ c.loop-i.invariant _ (c.PLACES.ensures ∙ g.met.T.Turn.places) c.requires.whole c.loop-i-test.true _ c.over_columns.ensures
 
 -- after the last block
 pub returns-2 : goal.returns-2
 returns-2 g c =
     walked_all _ _ _ _ _ _ _ _
-    (walked_more _ _ _ _ _ _ _ _ c.loop-i.invariant _ (c.PLACES.ensures ∙ g.met.T.Turn.places) c.requires c.loop-i-test.true _ c.over_columns.ensures)
+    (walked_more _ _ _ _ _ _ _ _ c.loop-i.invariant _ (c.PLACES.ensures ∙ g.met.T.Turn.places) c.requires.whole c.loop-i-test.true _ c.over_columns.ensures)
     (omega arith)
