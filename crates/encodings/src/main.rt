@@ -23,6 +23,7 @@ ghost use Rattle.std.specs.Prelude.{◌≤◌, ◌<◌, length, IfSome, IfOk};
 
 use encode::{Header, Scales};
 use lines::{Lines, TooLong};
+use refusal::Refusal;
 use score::Scored;
 use std::io::Read;
 
@@ -148,9 +149,8 @@ fn put_encoding(
     block: &mut [u8],
     block2: &mut [u8],
 ) -> usize {
-    let fault = vectors::vector_fault(header.dim, header.working_dim, v);
-    if fault != 0 {
-        return put_refused(out, fault);
+    if let Err(refusal) = vectors::check(header.dim, header.working_dim, v) {
+        return put_refused(out, u8::from(refusal));
     }
     let s = encode_by_width(header, fresh, v, block, block2);
     put_slot(out, header.residual, s, block, block2)
@@ -199,7 +199,7 @@ fn put_prepared(out: &mut [u8], line: &[u8]) -> Option<usize> {
     let mut q = [0.0f32; 4096];
     match query_at(line, 1, 4, &mut q)? {
         Ok(x) => Some(put_query(out, x.rnorm, &q[..x.length])),
-        Err(fault) => Some(put_refused(out, fault)),
+        Err(refusal) => Some(put_refused(out, u8::from(refusal))),
     }
 }
 
@@ -221,7 +221,7 @@ struct Query {
 }
 
 // The query in the last field of a line, refused or prepared in the first places of q. What it is prepared by stands from field `from` on.
-fn query_at(line: &[u8], from: usize, last: usize, q: &mut [f32]) -> Option<Result<Query, u8>>
+fn query_at(line: &[u8], from: usize, last: usize, q: &mut [f32]) -> Option<Result<Query, Refusal>>
     requires { (from ≤ 3) × (last ≤ 9) }
     ensures { IfSome result (λ r. IfOk r (λ x. x.length ≤ length q.old)) }
 {
@@ -231,12 +231,11 @@ fn query_at(line: &[u8], from: usize, last: usize, q: &mut [f32]) -> Option<Resu
     prepare(space, &v[..n], q)
 }
 
-fn prepare(space: Space, v: &[f32], q: &mut [f32]) -> Option<Result<Query, u8>>
+fn prepare(space: Space, v: &[f32], q: &mut [f32]) -> Option<Result<Query, Refusal>>
     ensures { IfSome result (λ r. IfOk r (λ x. x.length ≤ length q.old)) }
 {
-    let fault = vectors::vector_fault(space.dim, space.working, v);
-    if fault != 0 {
-        return Some(Err(fault));
+    if let Err(refusal) = vectors::check(space.dim, space.working, v) {
+        return Some(Err(refusal));
     }
     let length = padding::padded_dim(space.working);
     if q.len() < length {
@@ -257,7 +256,7 @@ fn score(line: &[u8]) -> Option<Scored> {
     let a = stage_at(line, 5, &mut block)?;
     match query {
         Ok(x) => Some(score_by_width(width, &q[..x.length], a.scale, &block[..a.length])),
-        Err(fault) => Some(Scored::Refused(fault)),
+        Err(refusal) => Some(Scored::Refused(u8::from(refusal))),
     }
 }
 
@@ -285,7 +284,7 @@ fn score2(line: &[u8]) -> Option<Scored> {
             b.scale,
             &block2[..b.length],
         )),
-        Err(fault) => Some(Scored::Refused(fault)),
+        Err(refusal) => Some(Scored::Refused(u8::from(refusal))),
     }
 }
 

@@ -13,7 +13,8 @@ use Rattle.lists.proofs.Laws.{tab-ext}
 use Rattle.positions.specs.Decides.{Decides}
 use Rattle.fit.specs.Fits.{Marked, EachMarked, live_marks}
 use Rattle.positions.proofs.Decides.{decided}
-use Rattle.positions.proofs.Tests.{both, left, right}
+use Rattle.lists.proofs.Tests.{and_left, and_right}
+use Rattle.positions.proofs.Tests.{both}
 use Rattle.positions.proofs.Slots.{count-last}
 
 -- b, or else c
@@ -37,7 +38,7 @@ pub marked : (on : Bool) (mark : ℕ) → Decides (leb mark 1 && (not on || eqb 
 marked on mark =
     let other : Bool = not on || eqb mark 1 in
     decided (leb mark 1 && other)
-    (λ e. record { low = leb-true mark 1 (left (leb mark 1) other e); live = λ k. eqb-true mark 1 (implied on (eqb mark 1) (right (leb mark 1) other e) k) })
+    (λ e. record { low = leb-true mark 1 (and_left (leb mark 1) other e); live = λ k. eqb-true mark 1 (implied on (eqb mark 1) (and_right (leb mark 1) other e) k) })
     (λ m. both (leb mark 1) other (le-leb mark 1 m.low) (implies on (eqb mark 1) (λ k. eq-eqb mark 1 (m.live k))))
 
 -- a mark counts itself

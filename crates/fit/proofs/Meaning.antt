@@ -11,14 +11,15 @@ use Rattle.index.specs.declared.Index.{Index}
 use Rattle.index.specs.Arrays.{Arrays}
 use Rattle.index.specs.Fit.{between, Row, row_at, fit}
 use Rattle.positions.specs.Decides.{Decides}
-use Rattle.fit.specs.Fits.{live_marks, keys_of, Fits}
+use Rattle.fit.specs.Fits.{live_marks, keys_in, Fits}
 use Rattle.positions.proofs.Decides.{decided, decides-true}
-use Rattle.positions.proofs.Tests.{both, left, right, each, nothing, also}
+use Rattle.lists.proofs.Tests.{and_left, and_right}
+use Rattle.positions.proofs.Tests.{both, each, nothing, also}
 use Rattle.fit.proofs.Marks.{implied, implies}
 use Rattle.positions.proofs.Slots.{all-tab, tab-all, count-tab, rows-ordered}
 
 between-parts : (low high x : ℕ) → between low high x ≡ true → (low ≤ x) × (x ≤ high)
-between-parts low high x e = (leb-true low x (left (leb low x) (leb x high) e), leb-true x high (right (leb low x) (leb x high) e))
+between-parts low high x e = (leb-true low x (and_left (leb low x) (leb x high) e), leb-true x high (and_right (leb low x) (leb x high) e))
 
 between-made : (low high x : ℕ) → low ≤ x → x ≤ high → between low high x ≡ true
 between-made low high x l m = both (leb low x) (leb x high) (le-leb low x l) (le-leb x high m)
@@ -55,7 +56,7 @@ module _ (x : Index) (a : Arrays) where
                   };
               count = eqb-true _ _ (each _ 6 h) ∙ same_count;
             };
-        positions = (rows-ordered (keys_of a) (λ i. get_or a.alive i 0) x.n).yes (each _ 8 h);
+        positions = (rows-ordered (keys_in a) (λ i. get_or a.alive i 0) x.n).yes (each _ 8 h);
       }
 
   fits-to : Fits x a → fit x a ≡ true
@@ -71,7 +72,7 @@ module _ (x : Index) (a : Arrays) where
       (also _ _ (eq-eqb _ _ (f.marks.count ∙ sym same_count))
       (also _ _ (all-tab (λ (r : Row). not r.keyed || eqb r.alive 1) (row_at a) x.n
       (λ i l. implies (get_or a.keyed i false) (eqb (get_or a.alive i 0) 1) (λ e. eq-eqb _ _ ((f.marks.slot i l).live e))))
-      (also _ _ (decides-true (rows-ordered (keys_of a) (λ i. get_or a.alive i 0) x.n) f.positions) nothing))))))))
+      (also _ _ (decides-true (rows-ordered (keys_in a) (λ i. get_or a.alive i 0) x.n) f.positions) nothing))))))))
 
   pub meaning : Decides (fit x a) (Fits x a)
   meaning = decided (fit x a) fits-from fits-to

@@ -13,7 +13,7 @@ use Rattle.index.specs.Arrays.{Arrays}
 use Rattle.index.specs.State.{rooms, capacity}
 use Rattle.positions.specs.Ordered.{Room}
 use Rattle.room.proofs.Least.{least-low, least-each}
-use Rattle.fit.specs.Fits.{keys_of, Enough}
+use Rattle.fit.specs.Fits.{keys_in, Enough}
 
 -- as many slots as the capacity allows: each array has them
 module _ (h : Header) (a : Arrays) (n : ℕ) (fits : n ≤ capacity h a) where
@@ -39,7 +39,7 @@ module _ (h : Header) (a : Arrays) (n : ℕ) (fits : n ≤ capacity h a) where
         scales2 = λ e. (second e).1;
       }
 
-  pub keys-room : Room (keys_of a) n
+  pub keys-room : Room (keys_in a) n
   keys-room = record { few = enough.few; keys = enough.keys; keyed = enough.keyed; held = enough.held }
 
 -- a width in range is a code's

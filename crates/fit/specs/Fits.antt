@@ -37,15 +37,15 @@ pub record Marks (keyed : List Bool) (alive : List ℕ) (n live : ℕ) : Type 0 
   pub slot : EachMarked keyed alive n
   pub count : live ≡ live_marks alive n
 
-abbrev pub keys_of : Arrays → Keys
-keys_of a = record { keys = a.keys; keyed = a.keyed; held = a.held }
+abbrev pub keys_in : Arrays → Keys
+keys_in a = record { keys = a.keys; keyed = a.keyed; held = a.held }
 
 -- `room`: "an array too short (the index's, for the slots in use ..)", "over 65,536 slots in use". `positions`: "a key's t slots not holding positions 0 to t-1 once each".
 pub record Fits (x : Index) (a : Arrays) : Type 0 where
   pub fields : Fields x
   pub room : x.n ≤ capacity (header_of x) a
   pub marks : Marks a.keyed a.alive x.n x.live
-  pub positions : Ordered (keys_of a) x.n
+  pub positions : Ordered (keys_in a) x.n
 
 -- what `room` says of each array
 pub record Enough (h : Header) (a : Arrays) (n : ℕ) : Type 0 where

@@ -29,9 +29,8 @@ fn put_words(file: &[u8], answer: &mut [u64])
 pub extern "C" fn vecq_raw_head(file: &[u8], answer: &mut [u64]) -> u8
     ensures { put result answer.new ≡ put_head file.now answer.old }
 {
-    let fault = header::head_fault(file);
-    if fault != 0 {
-        return fault;
+    if let Err(refusal) = header::check(file) {
+        return u8::from(refusal);
     }
     if answer.len() < HEAD_WORDS {
         return 13;

@@ -13,7 +13,8 @@ use Rattle.lists.proofs.Keep.{each-mem, count-implied, count_same, count-share, 
 use Rattle.index.specs.Fit.{Row, of_key, of_key_at, positioned}
 use Rattle.positions.specs.Decides.{Decides}
 use Rattle.positions.proofs.Decides.{decided}
-use Rattle.positions.proofs.Tests.{both, left, right, all-mem, mem-all}
+use Rattle.lists.proofs.Tests.{and_left, and_right}
+use Rattle.positions.proofs.Tests.{both, all-mem, mem-all}
 
 -- ---- `count` by membership
 
@@ -34,15 +35,15 @@ module _ {X : Type 0} (p : X → Bool) where
 
 module _ (k : ℕ) (r : Row) where
   key-parts : of_key k r ≡ true → (r.keyed ≡ true) × (r.key ≡ k)
-  key-parts e = (left r.keyed (eqb r.key k) e, eqb-true r.key k (right r.keyed (eqb r.key k) e))
+  key-parts e = (and_left r.keyed (eqb r.key k) e, eqb-true r.key k (and_right r.keyed (eqb r.key k) e))
 
   key-made : r.keyed ≡ true → r.key ≡ k → of_key k r ≡ true
   key-made e f = both r.keyed (eqb r.key k) e (eq-eqb _ _ f)
 
   pub of_key_at-parts : (p : ℕ) → of_key_at k p r ≡ true → (r.keyed ≡ true) × (r.key ≡ k) × (r.held ≡ p)
   of_key_at-parts p e =
-      let f = key-parts (left (of_key k r) (eqb r.held p) e) in
-      (f.0, f.1, eqb-true r.held p (right (of_key k r) (eqb r.held p) e))
+      let f = key-parts (and_left (of_key k r) (eqb r.held p) e) in
+      (f.0, f.1, eqb-true r.held p (and_right (of_key k r) (eqb r.held p) e))
 
   pub of_key_at-made : (p : ℕ) → r.keyed ≡ true → r.key ≡ k → r.held ≡ p → of_key_at k p r ≡ true
   of_key_at-made p e f g = both (of_key k r) (eqb r.held p) (key-made e f) (eq-eqb _ _ g)
@@ -132,8 +133,8 @@ module _ (rs : List Row) where
         let t = sym (keyed-test r u.0) ∙ all-mem (positioned rs) m f in
         let x = ltb r.held (count (of_key r.key) rs) in
         let y = eqb (count (of_key_at r.key r.held) rs) 1 in (
-          rw (u.1, u.2) at (ltb-true r.held (count (of_key r.key) rs) (left x y t)),
-          rw (u.1, u.2) at (eqb-true (count (of_key_at r.key r.held) rs) 1 (right x y t)),
+          rw (u.1, u.2) at (ltb-true r.held (count (of_key r.key) rs) (and_left x y t)),
+          rw (u.1, u.2) at (eqb-true (count (of_key_at r.key r.held) rs) 1 (and_right x y t)),
         )
 
     at-most-once : (k p : ℕ) → count (of_key_at k p) rs ≤ 1

@@ -16,7 +16,8 @@ use Rattle.positions.specs.Decides.{Decides}
 use Rattle.positions.specs.Ordered.{Keys, Room, Holds, Ordered}
 use Rattle.positions.specs.Positions.{has_room, row_of, rows_of, positions_fit}
 use Rattle.positions.proofs.Decides.{decided, decides-true, decides-beside, same}
-use Rattle.positions.proofs.Tests.{both, left, right, each, nothing, also, all-mem, mem-all}
+use Rattle.lists.proofs.Tests.{and_left, and_right}
+use Rattle.positions.proofs.Tests.{both, each, nothing, also, all-mem, mem-all}
 use Rattle.positions.proofs.Consecutive.{Consecutive, of_key_at-parts, of_key_at-made, consecutive}
 
 module _ {X : Type 0} (f : ℕ → X) where
@@ -161,7 +162,7 @@ module _ (a : Keys) (n : ℕ) where
       let rs = rows_of a (λ i. 0) n in
       let d = rows-ordered a (λ i. 0) n in
       decided (positions_fit a n)
-      (λ e. (room-from (left (has_room a n) (all (positioned rs) rs) e), d.yes (right (has_room a n) (all (positioned rs) rs) e)))
+      (λ e. (room-from (and_left (has_room a n) (all (positioned rs) rs) e), d.yes (and_right (has_room a n) (all (positioned rs) rs) e)))
       (λ p. both (has_room a n) (all (positioned rs) rs) (room-to p.0) (decides-true d p.1))
 
 -- The answer where the arrays have the slots, of the same arrays and slots.

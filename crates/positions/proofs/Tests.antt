@@ -1,36 +1,21 @@
 -- Laws of tests: conjunctions, lists of tests that all hold, and tests that all entries of a list pass.
-use mathlib.Core.Path.{◌≡◌, refl, sym, ap, ◌∙◌, subst}
+use mathlib.Core.Path.{◌≡◌, refl, ap, ◌∙◌}
 use mathlib.Core.Bool.{Bool, true, false, ◌&&◌}
 use mathlib.Core.List.{List, [], ◌∷◌, Memᴰ}
 use Prim.Native.Nat.{ℕ, zero, suc}
 use lib.ListN.{get_or}
-use lib.Dec.{T}
 use Rattle.lists.specs.Keep.{all, every}
+use Rattle.lists.proofs.Tests.{and_left, and_right}
 
-module _ (b c : Bool) where
-  pub both : b ≡ true → c ≡ true → (b && c) ≡ true
-  both e f = rw (e, f)
-
-  pub left : (b && c) ≡ true → b ≡ true
-  left e = go b e
-    where
-      go : (x : Bool) → (x && c) ≡ true → x ≡ true
-      go true f = refl
-      go false f = f
-
-  pub right : (b && c) ≡ true → c ≡ true
-  right e = go b e
-    where
-      go : (x : Bool) → (x && c) ≡ true → c ≡ true
-      go true f = f
-      go false f = absurd (subst T (sym f) tt)
+pub both : (b c : Bool) → b ≡ true → c ≡ true → (b && c) ≡ true
+both b c e f = rw (e, f)
 
 -- each test of a list that all hold
 pub each : (bs : List Bool) (i : ℕ) → every bs ≡ true → get_or bs i true ≡ true
 unfolding every
 each [] i h = refl
-each (b ∷ bs) zero h = left b (every bs) h
-each (b ∷ bs) (suc i) h = each bs i (right b (every bs) h)
+each (b ∷ bs) zero h = and_left b (every bs) h
+each (b ∷ bs) (suc i) h = each bs i (and_right b (every bs) h)
 
 -- and back
 pub nothing : every [] ≡ true
@@ -44,8 +29,8 @@ also b bs e f = both b (every bs) e f
 module _ {X : Type 0} (p : X → Bool) where
   pub all-mem : {x : X} {xs : List X} → Memᴰ x xs → all p xs ≡ true → p x ≡ true
   unfolding all
-  all-mem (Memᴰ.head {x = y} {xs = ys} e) h = ap p e ∙ left (p y) (all p ys) h
-  all-mem (Memᴰ.tail {x = y} {xs = ys} m) h = all-mem m (right (p y) (all p ys) h)
+  all-mem (Memᴰ.head {x = y} {xs = ys} e) h = ap p e ∙ and_left (p y) (all p ys) h
+  all-mem (Memᴰ.tail {x = y} {xs = ys} m) h = all-mem m (and_right (p y) (all p ys) h)
 
   pub mem-all : (xs : List X) → ((x : X) → Memᴰ x xs → p x ≡ true) → all p xs ≡ true
   unfolding all

@@ -25,7 +25,7 @@ fn branch_of(entry: u32, roots: usize, bits: u64) -> usize
     roots + 2 * (entry as usize - 1) + (bits % 2) as usize
 }
 
-// The tree is lent beside its number of roots: a struct that holds a `&mut` can have no ghost field, so `Grown` would stand in each contract still.
+// The tree is lent beside its number of roots: a struct of both would still have to say at each call which slots have been entered by then, as `Grown` does here.
 impl HeldKeys<'_> {
     // Whether a walk goes on from a place: a slot stands there that holds something else.
     fn passes(&self, tree: &[u32], place: usize, key: u64, position: u32) -> bool

@@ -25,11 +25,10 @@ fn without_place(
         (lent codes.now scales.now keys.now keyed.now held.now alive.now codes2.now scales2.now) ∷ 13 ∷ []) }
 {
     let arrays = Lent { codes, scales, keys, keyed, held, alive, codes2, scales2 };
-    let fault = read::read_fault(&arrays, file);
-    if fault == 0 {
-        return 13;
+    match read::check(&arrays, file) {
+        Ok(()) => 13,
+        Err(refusal) => u8::from(refusal),
     }
-    fault
 }
 
 #[unsafe(no_mangle)]
