@@ -12,7 +12,7 @@ use Rattle.lists.specs.Lists.{over}
 use Rattle.encode.specs.declared.Header.{Header}
 use Rattle.encode.specs.Coded.{fault}
 use Rattle.index.specs.declared.Index.{Index}
-use Rattle.index.specs.Verdict.{Verdict, taken, turned_down}
+use Rattle.index.specs.Verdict.{Verdict, granted, turned_down}
 use Rattle.index.specs.Arrays.{Arrays}
 use Rattle.index.specs.State.{header_of}
 use Rattle.index.specs.Fit.{fit}
@@ -115,7 +115,7 @@ module _ (score : ℕ → Float) (marks : List ℕ) (n : ℕ) (can : Bool) (k pl
       module _ (x : Index) (a : Arrays) (op : Op) (answers : result_of x a (unless (when nan 12) (hits (chosen score marks n k))) ≡ call x a op)
           (ns ms : List ℕ) (ss ts : List Float) (f : ms ≡ over (map (λ e. e.0) (shown score marks n k r)) ns)
           (g : ts ≡ over (map (λ e. e.1) (shown score marks n k r)) ss) where
-        pub leaves-hits : (m : ℕ) → r ≡ Ok m → Leaves x a op found (taken m) ns ms ss ts
+        pub leaves-hits : (m : ℕ) → r ≡ Ok m → Leaves x a op found (granted m) ns ms ss ts
         leaves-hits m e =
             let sound = some-hits m e in
             let there = pairs-there (chosen score marks n k) ns ss m ms ts sound.1 (rw e at f) (rw e at g) in

@@ -8,7 +8,7 @@ ghost use Rattle.lists.specs.Lists.{tab, over};
 ghost use Rattle.index.specs.Arrays.{lent};
 ghost use Rattle.index.specs.Lent.{contents_mut, SameLent};
 ghost use Rattle.index.specs.Fit.{fit};
-ghost use Rattle.index.specs.Verdict.{taken, verdict};
+ghost use Rattle.index.specs.Verdict.{granted, verdict};
 ghost use Rattle.index.specs.Step as Step;
 ghost use Rattle.index.specs.Call.{call};
 ghost use Rattle.index.specs.Answers.{made};
@@ -119,7 +119,7 @@ fn close_up(
     scales2: &mut [u32],
 ) -> Index
     requires { fit index (lent codes.old scales.old keys.old keyed.old held.old alive.old codes2.old scales2.old) ≡ true }
-    ensures { made index (taken result) (lent codes.new scales.new keys.new keyed.new held.new alive.new codes2.new scales2.new)
+    ensures { made index (granted result) (lent codes.new scales.new keys.new keyed.new held.new alive.new codes2.new scales2.new)
         ≡ call index (lent codes.old scales.old keys.old keyed.old held.old alive.old codes2.old scales2.old)
         Step.compact }
 {

@@ -12,7 +12,7 @@ use Rattle.lists.specs.Lists.{tab}
 use Rattle.lists.proofs.Laws.{length-tab}
 use Rattle.lists.proofs.Entries.{first-and-later}
 use Rattle.lists.proofs.Front.{map-tab}
-use Rattle.index.specs.Verdict.{Verdict, taken, turned_down}
+use Rattle.index.specs.Verdict.{Verdict, granted, turned_down}
 use Rattle.index.specs.Step.{Answer, refused, hits, key_hits, bytes}
 use Rattle.index.specs.Answers.{hit_count, byte_count, first_entries, first_pairs, found, found_keyed, wrote, LaterKept}
 use Rattle.histories.specs.Histories.{hit_and, hits_read, read, called, Moment, arrival_then, answer, LeaveAlike}
@@ -62,7 +62,7 @@ module _ (f g : ℕ → Option ℕ) (b : Answer) where
 
   found_alike : (r s : Verdict ℕ) (ns ms : List ℕ) (ss ts : List Float) → read f (found r ns ss) ≡ some b → read g (found s ms ts) ≡ some b →
       (r ≡ s) × (map f (first_entries (hit_count r) ns) ≡ map g (first_entries (hit_count s) ms)) × (scores_first (hit_count r) ss ≡ scores_first (hit_count s) ts)
-  found_alike (taken m) (taken n) ns ms ss ts d e =
+  found_alike (granted m) (granted n) ns ms ss ts d e =
       let p = read-hits f (first_pairs m ns ss) d in
       let q = read-hits g (first_pairs n ms ts) e in
       let same : p.0 ≡ q.0 = (let z : hits p.0 ≡ hits q.0 = p.2 ∙ sym q.2 in cc) in
@@ -70,13 +70,13 @@ module _ (f g : ℕ → Option ℕ) (b : Answer) where
       let scores = p.1.scores ∙ ap (map (λ (x : ℕ × Float). x.1)) same ∙ sym q.1.scores in
       let first : scores_first m ss ≡ scores_first n ts = sym (scores-first m ns ss) ∙ scores ∙ scores-first n ms ts in
       let count : m ≡ n = sym (length-tab (λ i. get_or ss i +0) m) ∙ ap length first ∙ length-tab (λ i. get_or ts i +0) n in (
-        ap taken count,
+        ap granted count,
         ap (map f) (sym (numbers-first m ns ss)) ∙ slots ∙ ap (map g) (numbers-first n ms ts),
         first,
       )
-  found_alike (taken m) (turned_down n) ns ms ss ts d e =
+  found_alike (granted m) (turned_down n) ns ms ss ts d e =
       let p = read-hits f (first_pairs m ns ss) d in absurd (apart p.0 n (p.2 ∙ sym (some-injective (refused n) b e)))
-  found_alike (turned_down m) (taken n) ns ms ss ts d e =
+  found_alike (turned_down m) (granted n) ns ms ss ts d e =
       let p = read-hits g (first_pairs n ms ts) e in absurd (apart p.0 m (p.2 ∙ sym (some-injective (refused m) b d)))
   found_alike (turned_down m) (turned_down n) ns ms ss ts d e =
       let z : refused m ≡ refused n = some-injective (refused m) b d ∙ sym (some-injective (refused n) b e) in
@@ -84,18 +84,18 @@ module _ (f g : ℕ → Option ℕ) (b : Answer) where
 
   keyed-alike : (r s : Verdict ℕ) (ns ms : List ℕ) (ss ts : List Float) → read f (found_keyed r ns ss) ≡ some b → read g (found_keyed s ms ts) ≡ some b →
       (r ≡ s) × (first_entries (hit_count r) ns ≡ first_entries (hit_count s) ms) × (scores_first (hit_count r) ss ≡ scores_first (hit_count s) ts)
-  keyed-alike (taken m) (taken n) ns ms ss ts d e =
+  keyed-alike (granted m) (granted n) ns ms ss ts d e =
       let z : key_hits (first_pairs m ns ss) ≡ key_hits (first_pairs n ms ts) = some-injective _ b d ∙ sym (some-injective _ b e) in
       let same : first_pairs m ns ss ≡ first_pairs n ms ts = cc in
       let count : m ≡ n = sym (length-tab (λ i. (get_or ns i 0, get_or ss i +0)) m) ∙ ap length same ∙ length-tab (λ i. (get_or ms i 0, get_or ts i +0)) n in (
-        ap taken count,
+        ap granted count,
         sym (numbers-first m ns ss) ∙ ap (map (λ (x : ℕ × Float). x.0)) same ∙ numbers-first n ms ts,
         sym (scores-first m ns ss) ∙ ap (map (λ (x : ℕ × Float). x.1)) same ∙ scores-first n ms ts,
       )
-  keyed-alike (taken m) (turned_down n) ns ms ss ts d e =
+  keyed-alike (granted m) (turned_down n) ns ms ss ts d e =
       let z : key_hits (first_pairs m ns ss) ≡ refused n = some-injective _ b d ∙ sym (some-injective _ b e) in
       absurd (let y : ◌≡◌ {A = ℕ} 0 1 = cc in omega arith)
-  keyed-alike (turned_down m) (taken n) ns ms ss ts d e =
+  keyed-alike (turned_down m) (granted n) ns ms ss ts d e =
       let z : refused m ≡ key_hits (first_pairs n ms ts) = some-injective _ b d ∙ sym (some-injective _ b e) in
       absurd (let y : ◌≡◌ {A = ℕ} 0 1 = cc in omega arith)
   keyed-alike (turned_down m) (turned_down n) ns ms ss ts d e =
@@ -104,14 +104,14 @@ module _ (f g : ℕ → Option ℕ) (b : Answer) where
 
   written-alike : (r s : Verdict ℕ) (bs cs : List ℕ) → read f (wrote r bs) ≡ some b → read g (wrote s cs) ≡ some b →
       (r ≡ s) × (first_entries (byte_count r) bs ≡ first_entries (byte_count s) cs)
-  written-alike (taken m) (taken n) bs cs d e =
+  written-alike (granted m) (granted n) bs cs d e =
       let z : bytes (first_entries m bs) ≡ bytes (first_entries n cs) = some-injective _ b d ∙ sym (some-injective _ b e) in
       let same : first_entries m bs ≡ first_entries n cs = cc in
-      let count : m ≡ n = sym (length-tab (λ i. get_or bs i 0) m) ∙ ap length same ∙ length-tab (λ i. get_or cs i 0) n in (ap taken count, same)
-  written-alike (taken m) (turned_down n) bs cs d e =
+      let count : m ≡ n = sym (length-tab (λ i. get_or bs i 0) m) ∙ ap length same ∙ length-tab (λ i. get_or cs i 0) n in (ap granted count, same)
+  written-alike (granted m) (turned_down n) bs cs d e =
       let z : bytes (first_entries m bs) ≡ refused n = some-injective _ b d ∙ sym (some-injective _ b e) in
       absurd (let y : ◌≡◌ {A = ℕ} 0 1 = cc in omega arith)
-  written-alike (turned_down m) (taken n) bs cs d e =
+  written-alike (turned_down m) (granted n) bs cs d e =
       let z : refused m ≡ bytes (first_entries n cs) = some-injective _ b d ∙ sym (some-injective _ b e) in
       absurd (let y : ◌≡◌ {A = ℕ} 0 1 = cc in omega arith)
   written-alike (turned_down m) (turned_down n) bs cs d e =

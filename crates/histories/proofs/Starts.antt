@@ -13,7 +13,7 @@ use Rattle.lists.proofs.Laws.{length-tab, zip-tab, tab-ext}
 use Rattle.lists.proofs.Front.{map-tab, each-tab}
 use Rattle.encode.specs.declared.Header.{Header}
 use Rattle.index.specs.declared.Index.{Index}
-use Rattle.index.specs.Verdict.{Verdict, taken, turned_down}
+use Rattle.index.specs.Verdict.{Verdict, granted, turned_down}
 use Rattle.index.specs.Arrays.{Arrays}
 use Rattle.index.specs.State.{Mark, dead, unkeyed, keyed, Slot, is_live, live, State, header_of, capacity, slot_at, state_of, record_of, overlay, seconds, with_mark}
 use Rattle.index.specs.Fit.{between, fit}
@@ -36,11 +36,11 @@ use Rattle.histories.proofs.Runs.{Good}
 
 -- ---- an accepted making
 
-make-accepted : (h : Header) (b : Arrays) (x : Index) (a : Arrays) → make h b ≡ begun (taken x) a → (make_refusal h b ≡ 0) × (record_of (empty h) ≡ x) × (b ≡ a)
+make-accepted : (h : Header) (b : Arrays) (x : Index) (a : Arrays) → make h b ≡ begun (granted x) a → (make_refusal h b ≡ 0) × (record_of (empty h) ≡ x) × (b ≡ a)
 unfolding make
 make-accepted h b x a e = go (make_refusal h b) e
   where
-    go : (n : ℕ) → make_unless n h b ≡ begun (taken x) a → (n ≡ 0) × (record_of (empty h) ≡ x) × (b ≡ a)
+    go : (n : ℕ) → make_unless n h b ≡ begun (granted x) a → (n ≡ 0) × (record_of (empty h) ≡ x) × (b ≡ a)
     go zero f = (refl, ap (λ (r : Begun). record_in x r.answer) f, ap (λ (r : Begun). r.arrays) f)
     go (suc n) f = absurd (omega (arith, ap (λ (r : Begun). is_made r.answer) f))
 
@@ -68,7 +68,7 @@ no-overlay a = refl
 empty-sound : (h : Header) (a : Arrays) → Ranged h → Sound (capacity h a) (empty h)
 empty-sound h a r = record { header = r; space = omega arith; shape = tt; positions = λ k p. sym (ap bit (le-ltb p 0 (omega arith))) }
 
-made-fit : (m : Making) (b : Arrays) (x : Index) (a : Arrays) → make (made_header m) b ≡ begun (taken x) a → (fit x a ≡ true) × (x.n ≡ 0)
+made-fit : (m : Making) (b : Arrays) (x : Index) (a : Arrays) → make (made_header m) b ≡ begun (granted x) a → (fit x a ≡ true) × (x.n ≡ 0)
 unfolding record_of
 made-fit m b x a e =
     let p = make-accepted (made_header m) b x a e in (
@@ -126,7 +126,7 @@ unfolding rising
 empty-good x a f z = begin-good x a f (rw (none-slots x a z)) (rw (none-slots x a z) tt)
 
 -- what is read
-read-good : (file : List ℕ) (b : Arrays) (x : Index) → (read_into b file).answer ≡ taken x → Good (begin x (read_into b file).arrays)
+read-good : (file : List ℕ) (b : Arrays) (x : Index) → (read_into b file).answer ≡ granted x → Good (begin x (read_into b file).arrays)
 unfolding state_in
 read-good file b x e =
     let same : (state_of x (read_into b file).arrays).slots ≡ slots_in file = ap (λ (s : State). s.slots) (read-value b file x e) in
@@ -181,7 +181,7 @@ slots-arrive file =
 pub told-as-filed : ToldAsFiled
 unfolding begin state_of state_in
 told-as-filed file b x a e =
-    let made : (read_into b file).answer ≡ taken x = ap (λ (r : Begun). r.answer) e in
+    let made : (read_into b file).answer ≡ granted x = ap (λ (r : Begun). r.answer) e in
     let value : state_of x a ≡ state_in file = ap (state_of x) (sym (ap (λ (r : Begun). r.arrays) e)) ∙ read-value b file x made in
     let count : x.n ≡ count_in file = sym (slots-in-use x a) ∙ ap (λ (s : State). length s.slots) value ∙ read_length file in
     let living : map live_arrival (live_from 0 (state_of x a).slots) ≡ (told_in file).living =

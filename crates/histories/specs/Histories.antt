@@ -22,7 +22,7 @@ use Rattle.score.specs.Order.{order_number}
 use Rattle.encode.specs.declared.Header.{Header}
 use Rattle.encode.specs.Coded.{Code, no_spare, spare_of}
 use Rattle.index.specs.declared.Index.{Index}
-use Rattle.index.specs.Verdict.{Verdict, taken, turned_down}
+use Rattle.index.specs.Verdict.{Verdict, granted, turned_down}
 use Rattle.index.specs.Arrays.{Arrays}
 use Rattle.index.specs.State.{Slot, live, header_of, state_of}
 use Rattle.index.specs.Codec.{encoded, score_of}
@@ -263,10 +263,10 @@ made_header (with_working_dim dim working seed) = new_header dim working seed fa
 -- The record x and the arrays a of a start: accepted calls, over any arrays. "a new index is just made, its width set or left as made; a read one comes from an
 -- accepted reading".
 pub data Start (x : Index) (a : Arrays) : Type 0 where
-  as_made : (m : Making) (b : Arrays) → make (made_header m) b ≡ begun (taken x) a → Start x a
-  with_width : (m : Making) (b : Arrays) (y : Index) (c : Arrays) (width : ℕ) → make (made_header m) b ≡ begun (taken y) c → call y c (set_bits width) ≡
+  as_made : (m : Making) (b : Arrays) → make (made_header m) b ≡ begun (granted x) a → Start x a
+  with_width : (m : Making) (b : Arrays) (y : Index) (c : Arrays) (width : ℕ) → make (made_header m) b ≡ begun (granted y) c → call y c (set_bits width) ≡
       result_of x a done → Start x a
-  as_read : (file : List ℕ) (b : Arrays) → read_into b file ≡ begun (taken x) a → Start x a
+  as_read : (file : List ℕ) (b : Arrays) → read_into b file ≡ begun (granted x) a → Start x a
 
 abbrev pub live_arrival : Cell → LiveArrival
 live_arrival c = record { arrival = c.number; key = key_of_mark c.slot.mark; code = c.slot.code }
@@ -377,7 +377,7 @@ told_in file = record { header = header_in file; next = count_in file; living = 
 
 -- what is told at a read start is what the file tells
 abbrev pub ToldAsFiled : Type 0
-ToldAsFiled = (file : List ℕ) (b : Arrays) (x : Index) (a : Arrays) → read_into b file ≡ begun (taken x) a → (begin x a).told ≡ told_in file
+ToldAsFiled = (file : List ℕ) (b : Arrays) (x : Index) (a : Arrays) → read_into b file ≡ begun (granted x) a → (begin x a).told ≡ told_in file
 
 -- ---- laws beside the claims: along a run
 

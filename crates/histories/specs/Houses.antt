@@ -2,7 +2,7 @@
 -- whatever they held, and goes on from there.
 use Rattle.std.specs.Prelude.{◌≡◌, List, [], ◌∷◌, map, ℕ, ◌≤◌}
 use Rattle.index.specs.declared.Index.{Index}
-use Rattle.index.specs.Verdict.{Verdict, taken, turned_down}
+use Rattle.index.specs.Verdict.{Verdict, granted, turned_down}
 use Rattle.index.specs.Arrays.{Arrays}
 use Rattle.index.specs.State.{capacity}
 use Rattle.index.specs.Step.{Op, Answer}
@@ -16,7 +16,7 @@ pub record House (file : List ℕ) : Type 0 where
   pub lent : Arrays
   pub index : Index
   pub arrays : Arrays
-  pub read : read_into lent file ≡ begun (taken index) arrays
+  pub read : read_into lent file ≡ begun (granted index) arrays
 
 abbrev pub opened : {file : List ℕ} → House file → Run
 opened p = begin p.index p.arrays

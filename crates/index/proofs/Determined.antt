@@ -9,7 +9,7 @@ use Rattle.pattern.specs.Binary32.{+0}
 use Rattle.lists.specs.Lists.{over}
 use Rattle.lists.proofs.Laws.{get_d_default, length-tab, get_or-tab}
 use Rattle.lists.proofs.Front.{get_d_front, get_or-over-map, drop-over, front_rest, tab-is}
-use Rattle.index.specs.Verdict.{Verdict, taken, turned_down}
+use Rattle.index.specs.Verdict.{Verdict, granted, turned_down}
 use Rattle.index.specs.Step.{refused, hits, key_hits, bytes}
 use Rattle.index.specs.Answers.{hit_count, byte_count, first_entries, first_pairs, found, found_keyed, wrote, LaterKept}
 
@@ -49,9 +49,9 @@ module _ (ns : List ℕ) (ss : List Float) (ms ms' : List ℕ) (ts ts' : List Fl
   abbrev Same : (r r' : Verdict ℕ) → Type 0
   Same r r' = (r ≡ r') × ((ms ≡ ms') × (ts ≡ ts'))
 
-  same-hits : (m m' : ℕ) → Left ns ss (taken m) ms ts → Left ns ss (taken m') ms' ts' → first_pairs m ms ts ≡ first_pairs m' ms' ts' → Same (taken m) (taken m')
+  same-hits : (m m' : ℕ) → Left ns ss (granted m) ms ts → Left ns ss (granted m') ms' ts' → first_pairs m ms ts ≡ first_pairs m' ms' ts' → Same (granted m) (granted m')
   same-hits m m' l l' e = (
-    ap taken many,
+    ap granted many,
     (
       front_rest m 0 ms ms' (l.numbers-long ∙ sym l'.numbers-long) (λ i h. ap (λ (p : ℕ × Float). p.0) (at i h))
           (l.numbers-kept ∙ ap (λ (n : ℕ). drop n ns) many ∙ sym l'.numbers-kept ∙ ap (λ (n : ℕ). drop n ms') (sym many)),
@@ -78,23 +78,23 @@ module _ (ns : List ℕ) (ss : List Float) (ms ms' : List ℕ) (ts ts' : List Fl
   same-refused n n' l l' e = (ap turned_down e, (l.numbers-kept ∙ sym l'.numbers-kept, l.scores-kept ∙ sym l'.scores-kept))
 
   pub found-determines : (r r' : Verdict ℕ) → Left ns ss r ms ts → Left ns ss r' ms' ts' → found r ms ts ≡ found r' ms' ts' → Same r r'
-  found-determines (taken m) (taken m') l l' e = same-hits m m' l l' (let f : hits (first_pairs m ms ts) ≡ hits (first_pairs m' ms' ts') = e in cc)
+  found-determines (granted m) (granted m') l l' e = same-hits m m' l l' (let f : hits (first_pairs m ms ts) ≡ hits (first_pairs m' ms' ts') = e in cc)
   found-determines (turned_down n) (turned_down n') l l' e = same-refused n n' l l' (let f : refused n ≡ refused n' = e in cc)
-  found-determines (taken m) (turned_down n) l l' e = absurd (let f : hits (first_pairs m ms ts) ≡ refused n = e in let z : ◌≡◌ {A = ℕ} 0 1 = cc in omega arith)
-  found-determines (turned_down n) (taken m) l l' e = absurd (let f : refused n ≡ hits (first_pairs m ms' ts') = e in let z : ◌≡◌ {A = ℕ} 0 1 = cc in omega arith)
+  found-determines (granted m) (turned_down n) l l' e = absurd (let f : hits (first_pairs m ms ts) ≡ refused n = e in let z : ◌≡◌ {A = ℕ} 0 1 = cc in omega arith)
+  found-determines (turned_down n) (granted m) l l' e = absurd (let f : refused n ≡ hits (first_pairs m ms' ts') = e in let z : ◌≡◌ {A = ℕ} 0 1 = cc in omega arith)
 
   pub keyed-determines : (r r' : Verdict ℕ) → Left ns ss r ms ts → Left ns ss r' ms' ts' → found_keyed r ms ts ≡ found_keyed r' ms' ts' → Same r r'
-  keyed-determines (taken m) (taken m') l l' e = same-hits m m' l l' (let f : key_hits (first_pairs m ms ts) ≡ key_hits (first_pairs m' ms' ts') = e in cc)
+  keyed-determines (granted m) (granted m') l l' e = same-hits m m' l l' (let f : key_hits (first_pairs m ms ts) ≡ key_hits (first_pairs m' ms' ts') = e in cc)
   keyed-determines (turned_down n) (turned_down n') l l' e = same-refused n n' l l' (let f : refused n ≡ refused n' = e in cc)
-  keyed-determines (taken m) (turned_down n) l l' e = absurd (let f : key_hits (first_pairs m ms ts) ≡ refused n = e in let z : ◌≡◌ {A = ℕ} 0 1 = cc in omega arith)
-  keyed-determines (turned_down n) (taken m) l l' e = absurd (let f : refused n ≡ key_hits (first_pairs m ms' ts') = e in let z : ◌≡◌ {A = ℕ} 0 1 = cc in omega arith)
+  keyed-determines (granted m) (turned_down n) l l' e = absurd (let f : key_hits (first_pairs m ms ts) ≡ refused n = e in let z : ◌≡◌ {A = ℕ} 0 1 = cc in omega arith)
+  keyed-determines (turned_down n) (granted m) l l' e = absurd (let f : refused n ≡ key_hits (first_pairs m ms' ts') = e in let z : ◌≡◌ {A = ℕ} 0 1 = cc in omega arith)
 
 -- the same of a file
 module _ (file next next' : List ℕ) (long : length next ≡ length file) (long' : length next' ≡ length file) where
   same_bytes : (m m' : ℕ) → LaterKept m file next → LaterKept m' file next' → first_entries m next ≡ first_entries m' next' →
-      (taken m ≡ taken m') × (next ≡ next')
+      (granted m ≡ granted m') × (next ≡ next')
   same_bytes m m' l l' e = (
-    ap taken many,
+    ap granted many,
     front_rest m 0 next next' (long ∙ sym long')
         (λ i h. sym (get_or-tab (λ i. get_or next i 0) m i 0 h) ∙ ap (λ (bs : List ℕ). get_or bs i 0) e ∙ get_or-tab (λ i. get_or next' i 0) m' i 0 (subst (λ (n : ℕ). i < n) many h))
         (l ∙ ap (λ (n : ℕ). drop n file) many ∙ sym l' ∙ ap (λ (n : ℕ). drop n next') (sym many)),
@@ -104,7 +104,7 @@ module _ (file next next' : List ℕ) (long : length next ≡ length file) (long
       many = sym (length-tab (λ i. get_or next i 0) m) ∙ ap length e ∙ length-tab (λ i. get_or next' i 0) m'
 
   pub wrote-determines : (r r' : Verdict ℕ) → LaterKept (byte_count r) file next → LaterKept (byte_count r') file next' → wrote r next ≡ wrote r' next' → (r ≡ r') × (next ≡ next')
-  wrote-determines (taken m) (taken m') l l' e = same_bytes m m' l l' (let f : bytes (first_entries m next) ≡ bytes (first_entries m' next') = e in cc)
+  wrote-determines (granted m) (granted m') l l' e = same_bytes m m' l l' (let f : bytes (first_entries m next) ≡ bytes (first_entries m' next') = e in cc)
   wrote-determines (turned_down n) (turned_down n') l l' e = (ap turned_down (let f : refused n ≡ refused n' = e in cc), l ∙ sym l')
-  wrote-determines (taken m) (turned_down n) l l' e = absurd (let f : bytes (first_entries m next) ≡ refused n = e in let z : ◌≡◌ {A = ℕ} 0 1 = cc in omega arith)
-  wrote-determines (turned_down n) (taken m) l l' e = absurd (let f : refused n ≡ bytes (first_entries m next') = e in let z : ◌≡◌ {A = ℕ} 0 1 = cc in omega arith)
+  wrote-determines (granted m) (turned_down n) l l' e = absurd (let f : bytes (first_entries m next) ≡ refused n = e in let z : ◌≡◌ {A = ℕ} 0 1 = cc in omega arith)
+  wrote-determines (turned_down n) (granted m) l l' e = absurd (let f : refused n ≡ bytes (first_entries m next') = e in let z : ◌≡◌ {A = ℕ} 0 1 = cc in omega arith)

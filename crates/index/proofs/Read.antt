@@ -17,7 +17,7 @@ use Rattle.lists.proofs.Keep.{keep_all}
 use Rattle.lists.proofs.Front.{each-tab}
 use Rattle.encode.specs.Header.{block_size}
 use Rattle.index.specs.declared.Index.{Index}
-use Rattle.index.specs.Verdict.{Verdict, taken, turned_down}
+use Rattle.index.specs.Verdict.{Verdict, granted, turned_down}
 use Rattle.index.specs.Arrays.{Arrays}
 use Rattle.index.specs.State.{Mark, dead, unkeyed, keyed, Slot, is_live, live, capacity, state_of, record_of, overlay, with_mark}
 use Rattle.index.specs.Fit.{between, fit}
@@ -244,11 +244,11 @@ module _ (file : List ℕ) where
 -- ---- an accepted reading
 
 abbrev pub record_in : Index → Verdict Index → Index
-record_in d (taken y) = y
+record_in d (granted y) = y
 record_in d (turned_down n) = d
 
 abbrev pub is_made : Verdict Index → ℕ
-is_made (taken y) = 1
+is_made (granted y) = 1
 is_made (turned_down n) = 0
 
 module _ (a : Arrays) (file : List ℕ) where
@@ -258,15 +258,15 @@ module _ (a : Arrays) (file : List ℕ) where
     pub record_is : x ≡ record_of (state_in file)
     pub arrays-are : (read_into a file).arrays ≡ overlay a (slots_in file)
 
-  pub read-accepted : (x : Index) → (read_into a file).answer ≡ taken x → ReadAs x
+  pub read-accepted : (x : Index) → (read_into a file).answer ≡ granted x → ReadAs x
   unfolding read_into
   read-accepted x e = go (read_refusal file a) refl e
     where
-      go : (n : ℕ) → read_refusal file a ≡ n → (read_unless n a file).answer ≡ taken x → ReadAs x
+      go : (n : ℕ) → read_refusal file a ≡ n → (read_unless n a file).answer ≡ granted x → ReadAs x
       go zero f g = record { passed = accepted file a f; record_is = sym (ap (record_in x) g); arrays-are = ap (λ (m : ℕ). (read_unless m a file).arrays) f }
       go (suc n) f g = absurd (omega (arith, ap is_made g))
 
-  module _ (x : Index) (e : (read_into a file).answer ≡ taken x) where
+  module _ (x : Index) (e : (read_into a file).answer ≡ granted x) where
     -- record and arrays fit
     pub read_fits : fit x (read_into a file).arrays ≡ true
     unfolding state_in

@@ -2,7 +2,7 @@
 use Rattle.std.specs.Prelude.{Bool, false, not, cond, ◌&&◌, [], ◌∷◌, ℕ, zero, suc, eqb}
 use Rattle.encode.specs.declared.Header.{Header}
 use Rattle.index.specs.declared.Index.{Index}
-use Rattle.index.specs.Verdict.{Verdict, taken, turned_down}
+use Rattle.index.specs.Verdict.{Verdict, granted, turned_down}
 use Rattle.index.specs.Arrays.{Arrays}
 use Rattle.index.specs.State.{State, capacity, record_of}
 use Rattle.index.specs.Fit.{between}
@@ -29,7 +29,7 @@ abbrev pub begun : Verdict Index → Arrays → Begun
 begun r a = record { answer = r; arrays = a }
 
 abbrev pub make_unless : (refusal : ℕ) → Header → Arrays → Begun
-make_unless zero h a = begun (taken (record_of (empty h))) a
+make_unless zero h a = begun (granted (record_of (empty h))) a
 make_unless (suc n) h a = begun (turned_down (suc n)) a
 
 unfoldable pub make : Header → Arrays → Begun

@@ -11,7 +11,7 @@ use Rattle.codes.specs.Stage.{Stage}
 use Rattle.encode.specs.declared.Header.{Header}
 use Rattle.encode.specs.Header.{block_size}
 use Rattle.index.specs.declared.Form.{Form}
-use Rattle.index.specs.Verdict.{taken, turned_down}
+use Rattle.index.specs.Verdict.{granted, turned_down}
 use Rattle.index.specs.Arrays.{Arrays}
 use Rattle.index.specs.State.{Mark, unkeyed, keyed, Slot, State, capacity, record_of, overlay}
 use Rattle.index.specs.Fit.{between}
@@ -173,7 +173,7 @@ module _ (file : List ℕ) where
 
 -- "A refusal returns its number and changes nothing lent." What is read stands over the first places, and all further places are kept.
 abbrev pub read_unless : (refusal : ℕ) → Arrays → (file : List ℕ) → Begun
-read_unless zero a file = begun (taken (record_of (state_in file))) (overlay a (slots_in file))
+read_unless zero a file = begun (granted (record_of (state_in file))) (overlay a (slots_in file))
 read_unless (suc n) a file = begun (turned_down (suc n)) a
 
 unfoldable pub read_into : Arrays → (file : List ℕ) → Begun

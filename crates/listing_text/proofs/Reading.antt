@@ -10,7 +10,7 @@ use Rattle.lists.proofs.Laws.{length-tab, get_or-tab}
 use Rattle.lists.proofs.Front.{get_d_front, map-tab}
 use Rattle.slot_keys.specs.Has.{key_at}
 use Rattle.index.specs.declared.Index.{Index}
-use Rattle.index.specs.Verdict.{Verdict, taken, turned_down}
+use Rattle.index.specs.Verdict.{Verdict, granted, turned_down}
 use Rattle.index.specs.Arrays.{Arrays}
 use Rattle.index.specs.State.{Mark, keyed, has_key, key_word, overlay}
 use Rattle.index.specs.Make.{Begun, begun}

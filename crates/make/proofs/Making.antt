@@ -7,7 +7,7 @@ use borrow.Author.Tests.{ne_eqb}
 use Rattle.codes.specs.Writing.{at_width}
 use Rattle.encode.specs.declared.Header.{Header}
 use Rattle.index.specs.declared.Index.{Index}
-use Rattle.index.specs.Verdict.{taken, turned_down}
+use Rattle.index.specs.Verdict.{granted, turned_down}
 use Rattle.index.specs.Arrays.{Arrays}
 use Rattle.index.specs.State.{header_of, with_bits, record_with, capacity, record_of}
 use Rattle.index.specs.Fit.{between}
@@ -27,7 +27,7 @@ module _ (h : Header) (a : Arrays) where
   unfolding make make_refusal first_of
   make-13 e z = rw (make, make_refusal, e, z)
 
-  pub make-accepted : dims ≡ true → (capacity h a ≡ 0 → ⊥) → make h a ≡ begun (taken (record_of (empty h))) a
+  pub make-accepted : dims ≡ true → (capacity h a ≡ 0 → ⊥) → make h a ≡ begun (granted (record_of (empty h))) a
   unfolding make make_refusal first_of
   make-accepted e n = rw (make, make_refusal, e, ne_eqb (capacity h a) 0 n)
 
@@ -43,9 +43,9 @@ module _ (dim working seed : ℕ) (residual : Bool) where
   fresh bits = record_with (with_bits (new_header dim working seed residual) bits) 0 0 false
 
   module _ (bits : ℕ) (b : bits ≡ cond residual 4 5) where
-    pub fresh-made : (a : Arrays) → begun (taken (fresh bits)) a ≡ begun (taken (record_of (empty (new_header dim working seed residual)))) a
+    pub fresh-made : (a : Arrays) → begun (granted (fresh bits)) a ≡ begun (granted (record_of (empty (new_header dim working seed residual)))) a
     unfolding record_of
-    fresh-made a = ap (λ (w : ℕ). begun (taken (fresh w)) a) b
+    fresh-made a = ap (λ (w : ℕ). begun (granted (fresh w)) a) b
 
     pub fresh-room : (a : Arrays) (room : ℕ) → room ≡ at_width bits (capacity (header_of (fresh bits)) a) →
         room ≡ capacity (new_header dim working seed residual) a

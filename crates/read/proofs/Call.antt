@@ -9,7 +9,7 @@ use lib.ListN.{length}
 use Rattle.lists.specs.Lists.{tab, over}
 use Rattle.encode.specs.Header.{block_size}
 use Rattle.index.specs.declared.Index.{Index}
-use Rattle.index.specs.Verdict.{Verdict, taken, turned_down}
+use Rattle.index.specs.Verdict.{Verdict, granted, turned_down}
 use Rattle.index.specs.Arrays.{Arrays}
 use Rattle.index.specs.State.{record_of, scales_of, blocks_of}
 use Rattle.index.specs.Form.{stage_size}
@@ -99,5 +99,5 @@ module _ (file : List ℕ) (a : Arrays) (none : read_refusal file a ≡ 0) where
           scales2 = d.scales2 ∙ (λ i. over (scales_of (tab (stage_from (ef i) (ew i) (em i) (et i)) (em i))) a.scales2);
         }
 
-    pub done : (b : Arrays) (stages second table : List ℕ) (k m : ℕ) → Done b stages second table k m → (x : Index) → x ≡ record_of (state_in file) → begun (taken x) b ≡ read_into a file
+    pub done : (b : Arrays) (stages second table : List ℕ) (k m : ℕ) → Done b stages second table k m → (x : Index) → x ≡ record_of (state_in file) → begun (granted x) b ≡ read_into a file
     done b stages second table k m d x ex = read_all file a none x b ex (filled file a passed b (fills b stages second table k m d))

@@ -5,7 +5,7 @@ use mathlib.Core.List.{List, ◌∷◌}
 use Prim.Native.Nat.{ℕ, zero, suc, ◌≤◌, ◌<◌}
 use borrow.Author.Tests.{lt-ltb, le-ltb}
 use Rattle.index.specs.declared.Index.{Index}
-use Rattle.index.specs.Verdict.{Verdict, taken, turned_down}
+use Rattle.index.specs.Verdict.{Verdict, granted, turned_down}
 use Rattle.index.specs.Arrays.{Arrays}
 use Rattle.index.specs.State.{capacity, record_of, overlay}
 use Rattle.index.specs.Step.{first_of}
@@ -44,9 +44,9 @@ module _ (file : List ℕ) (a : Arrays) where
   passed-head e = let t = all-passed _ e in (t.0, when-none (over_limits file) 19 t.1.0)
 
   -- a file that is not refused, and one that is
-  pub read_all : read_refusal file a ≡ 0 → (x : Index) (b : Arrays) → x ≡ record_of (state_in file) → b ≡ overlay a (slots_in file) → begun (taken x) b ≡ read_into a file
+  pub read_all : read_refusal file a ≡ 0 → (x : Index) (b : Arrays) → x ≡ record_of (state_in file) → b ≡ overlay a (slots_in file) → begun (granted x) b ≡ read_into a file
   unfolding read_into
-  read_all e x b f g = (λ i. record { answer = taken (f i); arrays = g i }) ∙ ap (λ (n : ℕ). read_unless n a file) (sym e)
+  read_all e x b f g = (λ i. record { answer = granted (f i); arrays = g i }) ∙ ap (λ (n : ℕ). read_unless n a file) (sym e)
 
   pub read_none : (n : ℕ) → n ≡ read_refusal file a → (n ≡ 0 → ⊥) → begun (turned_down n) a ≡ read_into a file
   unfolding read_into

@@ -11,7 +11,7 @@ use Rattle.lists.specs.Keep.{bit, count, Each}
 use Rattle.lists.proofs.Keep.{each_weaken, each_both, count-length}
 use Rattle.lists.proofs.Front.{each_map, each-tab}
 use Rattle.index.specs.declared.Index.{Index}
-use Rattle.index.specs.Verdict.{Verdict, taken, turned_down}
+use Rattle.index.specs.Verdict.{Verdict, granted, turned_down}
 use Rattle.index.specs.Arrays.{Arrays}
 use Rattle.index.specs.State.{Slot, State, live, header_of, rooms, least, capacity, mark_of, stage_at, slot_at, state_of, record_of}
 use Rattle.index.specs.Fit.{fit}
@@ -110,8 +110,8 @@ module _ (x : Index) (a : Arrays) (t : Typed x a) where
     unfolding read_into
     opens b space =
         let passes : read_refusal file b ≡ 0 = accepted-back (header_of x) (map entry_of cells) writable b (omega (arith, length-map cells entry_of, live-is, space)) in
-        let made : (read_into b file).answer ≡ taken (record_of (saved (state_of x a))) =
-        ap (λ (n : ℕ). (read_unless n b file).answer) passes ∙ ap (λ (s : State). taken (record_of s)) is-saved in
+        let made : (read_into b file).answer ≡ granted (record_of (saved (state_of x a))) =
+        ap (λ (n : ℕ). (read_unless n b file).answer) passes ∙ ap (λ (s : State). granted (record_of s)) is-saved in
         record { answer = made; value = read-value b file (record_of (saved (state_of x a))) made ∙ is-saved }
 
 -- ---- an answer of bytes is that of the file

@@ -7,7 +7,7 @@ use Rattle.codes.specs.Stage.{Stage}
 use Rattle.encode.specs.declared.Header.{Header}
 use Rattle.encode.specs.Coded.{Code}
 use Rattle.index.specs.declared.Index.{Index}
-use Rattle.index.specs.Verdict.{Verdict, taken, turned_down}
+use Rattle.index.specs.Verdict.{Verdict, granted, turned_down}
 use Rattle.index.specs.Arrays.{Arrays}
 use Rattle.index.specs.State.{Mark, dead, unkeyed, keyed, Slot, State, header_of, capacity, state_of, record_of, new_slot}
 use Rattle.index.specs.File.{Entry}
@@ -76,7 +76,7 @@ pub record Typed (x : Index) (a : Arrays) : Type 0 where
 
 -- reading the file into the arrays is accepted, and the record that it hands back and the arrays that it leaves stand for the value
 pub record Opens (b : Arrays) (file : List ℕ) (s : State) : Type 0 where
-  pub answer : (read_into b file).answer ≡ taken (record_of s)
+  pub answer : (read_into b file).answer ≡ granted (record_of s)
   pub value : state_of (record_of s) (read_into b file).arrays ≡ s
 
 -- What `to_bytes` wrote, any arrays accept that have room for the live slots.

@@ -7,7 +7,7 @@ use lib.ListN.{length}
 use lib.Ieee.{Float}
 use Rattle.lists.specs.Lists.{over}
 use Rattle.index.specs.declared.Index.{Index}
-use Rattle.index.specs.Verdict.{Verdict, taken, turned_down}
+use Rattle.index.specs.Verdict.{Verdict, granted, turned_down}
 use Rattle.index.specs.Arrays.{Arrays}
 use Rattle.index.specs.State.{header_of, state_of}
 use Rattle.index.specs.Step.{Query, Hit, Answer, hits, when, unless, live_from, by_slot, searched, answered, step}
@@ -53,7 +53,7 @@ module _ (x : Index) (a : Arrays) (q : Query) (k places : ℕ) where
           (λ j. result_of x a (unless (when (live_nan x a q) 12) (hits (sym (by-slot (header_of x) a (live_chosen x a q k)) j))))
           ∙ search-listed x a q k places (Step.search q k places) by_slots is none
 
-      pub slots-listed : (m : ℕ) → r ≡ Ok m → Leaves x a (Step.search q k places) found (taken m) ns ms ss ts
+      pub slots-listed : (m : ℕ) → r ≡ Ok m → Leaves x a (Step.search q k places) found (granted m) ns ms ss ts
       slots-listed m o =
           leaves-hits (scores (header_of x) a q) a.alive x.n can k places yes (chosen-places x a q k places none) r g
           x a (Step.search q k places) answers ns ms ss ts h i m o

@@ -16,7 +16,7 @@ use Rattle.score.specs.Order.{order_number}
 use Rattle.lists.proofs.Tests.{both}
 use Rattle.encode.specs.Coded.{fault}
 use Rattle.index.specs.declared.Index.{Index}
-use Rattle.index.specs.Verdict.{Verdict, taken, turned_down}
+use Rattle.index.specs.Verdict.{Verdict, granted, turned_down}
 use Rattle.index.specs.Arrays.{Arrays}
 use Rattle.index.specs.State.{header_of, slot_at, state_of}
 use Rattle.index.specs.Fit.{fit}
@@ -238,7 +238,7 @@ module _ (x : Index) (a : Arrays) (q : Query) (k r places : ℕ) where
         module _ (l : Listed) (ms : List ℕ) (ts : List Float) (g : l ≡ list_answer (scores (header_of x) a q) marks x.n can k places)
             (h : ms ≡ over (map (λ e. e.0) (shown (scores (header_of x) a q) marks x.n k l)) ns)
             (i : ts ≡ over (map (λ e. e.1) (shown (scores (header_of x) a q) marks x.n k l)) ss) where
-          pub cascade-listed : (m : ℕ) → l ≡ Ok m → Leaves x a (Step.search_cascade q k r places) found (taken m) ns ms ss ts
+          pub cascade-listed : (m : ℕ) → l ≡ Ok m → Leaves x a (Step.search_cascade q k r places) found (granted m) ns ms ss ts
           cascade-listed m o =
               leaves-hits (scores (header_of x) a q) marks x.n can k places yes listed-fits l g
               x a (Step.search_cascade q k r places) answers ns ms ss ts h i m o

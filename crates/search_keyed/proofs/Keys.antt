@@ -14,7 +14,7 @@ use Rattle.lists.specs.Keep.{Each}
 use Rattle.lists.proofs.Front.{take-over}
 use Rattle.slot_keys.specs.Has.{key_at}
 use Rattle.index.specs.declared.Index.{Index}
-use Rattle.index.specs.Verdict.{Verdict, taken, turned_down}
+use Rattle.index.specs.Verdict.{Verdict, granted, turned_down}
 use Rattle.index.specs.Arrays.{Arrays}
 use Rattle.index.specs.State.{header_of, state_of}
 use Rattle.index.specs.Fit.{fit}
@@ -69,9 +69,9 @@ module _ (keys : List ℕ) (keyed : List Bool) (us : List ℕ) (ws : List Float)
   same r m e = ap (λ (z : ℕ). keyed_shown keys keyed (take z us) (take z ws) places) (sub-zero m) ∙ ap (keyed_of keys keyed us ws places) (sym e)
 
   pub named-hits : (r : Listed) (m : ℕ) → r ≡ Ok m → (n : ℕ) (ns ms : List ℕ) (ss ls : List Float) →
-      n ≡ length (first m) → ms ≡ over (map (λ y. y.0) (first m)) ns → ls ≡ over (map (λ y. y.1) (first m)) ss → Names r (taken n) ns ms ss ls
+      n ≡ length (first m) → ms ≡ over (map (λ y. y.0) (first m)) ns → ls ≡ over (map (λ y. y.1) (first m)) ss → Names r (granted n) ns ms ss ls
   named-hits r m e n ns ms ss ls i j l = (
-    ap taken (i ∙ ap length (same r m e)) ∙ ap (λ (f : Listed). named_answer f (keyed_of keys keyed us ws places r)) (sym e),
+    ap granted (i ∙ ap length (same r m e)) ∙ ap (λ (f : Listed). named_answer f (keyed_of keys keyed us ws places r)) (sym e),
     (
       j ∙ ap (λ (es : List (ℕ × Float)). over (map (λ y. y.0) es) ns) (same r m e),
       l ∙ ap (λ (es : List (ℕ × Float)). over (map (λ y. y.1) es) ss) (same r m e),

@@ -1,6 +1,6 @@
 -- A keyed search by way of a list of hits (document 01, store.rs: "`search_keyed` drops unkeyed hits and repeats").
 use Rattle.std.specs.Prelude.{Bool, List, [], ℕ, length, take, Float, Ok, Err}
-use Rattle.index.specs.Verdict.{Verdict, taken, turned_down}
+use Rattle.index.specs.Verdict.{Verdict, granted, turned_down}
 use Rattle.hits.specs.Hits.{Listed}
 use Rattle.distinct.specs.Distinct.{keyed_shown}
 
@@ -16,5 +16,5 @@ keyed_of keys keyed slots scores places (Err u) = []
 
 -- how many keys are listed where hits are, and else 12: after a search's tests the list can be made, so that a score is NaN
 abbrev pub named_answer : Listed → List (ℕ × Float) → Verdict ℕ
-named_answer (Ok m) es = taken (length es)
+named_answer (Ok m) es = granted (length es)
 named_answer (Err u) es = turned_down 12

@@ -12,7 +12,7 @@ use Rattle.lists.specs.Lists.{over}
 use Rattle.encode.specs.declared.Header.{Header}
 use Rattle.score.specs.declared.Scored.{Scored}
 use Rattle.index.specs.declared.Index.{Index}
-use Rattle.index.specs.Verdict.{Verdict, taken, turned_down}
+use Rattle.index.specs.Verdict.{Verdict, granted, turned_down}
 use Rattle.index.specs.declared.Added.{Added}
 use Rattle.index.specs.Arrays.{Arrays}
 use Rattle.index.specs.State.{record_of}
@@ -68,18 +68,18 @@ module _ (places : ℕ) (fs ws : List ℕ) (r : Record) (e : r ≡ record_beside
 
 -- how many words a question answers at most
 pub asked-words : (t : Verdict Bool) → length (in_words (asked t)).words ≤ 1
-asked-words (taken true) = omega arith
-asked-words (taken false) = omega arith
+asked-words (granted true) = omega arith
+asked-words (granted false) = omega arith
 asked-words (turned_down n) = omega arith
 
 pub keyed-words : (t : Verdict (Option ℕ)) → length (in_words (key_is t)).words ≤ 2
-keyed-words (taken (Some k)) = omega arith
-keyed-words (taken None) = omega arith
+keyed-words (granted (Some k)) = omega arith
+keyed-words (granted None) = omega arith
 keyed-words (turned_down n) = omega arith
 
 pub held-words : (t : Verdict (Option ℕ)) → length (in_words (held_is t)).words ≤ 2
-held-words (taken (Some i)) = omega arith
-held-words (taken None) = omega arith
+held-words (granted (Some i)) = omega arith
+held-words (granted None) = omega arith
 held-words (turned_down n) = omega arith
 
 pub scored-words : (t : Scored) → length (in_words (scored t)).words ≤ 1
@@ -87,7 +87,7 @@ scored-words (Scored.Score x) = omega arith
 scored-words (Scored.Refused n) = omega arith
 
 pub length-words : (t : Verdict ℕ) → length (in_words (length_is t)).words ≤ 1
-length-words (taken n) = omega arith
+length-words (granted n) = omega arith
 length-words (turned_down n) = omega arith
 
 -- ---- a word beside the record
@@ -112,12 +112,12 @@ module _ (fs ws : List ℕ) (r : Record) (e : r ≡ record_beside 1 fs ws) where
       by_both o g q l n fs' ws' p = ap (λ (z : PutBoth). left z.number z.fields z.answer b) p ∙ l ∙ by_call 1 fs ws r e x is op a o g
 
       pub added-left : (d : Verdict Added) → added x d b ≡ call x a op → (n : ℕ) (fs' ws' : List ℕ) → put_both n fs' ws' ≡ put_added d fs ws → left n fs' ws' b ≡ left_by 1 op fs ws a
-      added-left (taken y) g = by_both _ g _ (next-left y.index y.slot (slot y.slot) refl b)
+      added-left (granted y) g = by_both _ g _ (next-left y.index y.slot (slot y.slot) refl b)
       added-left (turned_down k) g = by_both _ g _ (refusal-left 1 fs ws r e x is k b)
 
       pub changed-left : (d : Verdict (Option Index)) → changed x d b ≡ call x a op → (n : ℕ) (fs' ws' : List ℕ) → put_both n fs' ws' ≡ put_changed d fs ws → left n fs' ws' b ≡ left_by 1 op fs ws a
-      changed-left (taken (Some y)) g = by_both _ g _ (next-left y 1 (flag true) refl b)
-      changed-left (taken None) g =
+      changed-left (granted (Some y)) g = by_both _ g _ (next-left y 1 (flag true) refl b)
+      changed-left (granted None) g =
           by_both _ g _ (λ i. left (sym (words-put 0 (0 ∷ []) ws place) i).number (kept 1 fs ws r e x is i) (sym (words-put 0 (0 ∷ []) ws place) i).words b)
       changed-left (turned_down k) g = by_both _ g _ (refusal-left 1 fs ws r e x is k b)
 
@@ -155,7 +155,7 @@ module _ (fs ws : List ℕ) (r : Record) (e : r ≡ record_beside 1 fs ws) where
 -- ---- the record alone
 
 -- what is written of a record that has places
-record-put : (fs : List ℕ) → record_words ≤ length fs → (y : Index) → put 0 (over (words_of y) fs) ≡ put_made (taken y) fs
+record-put : (fs : List ℕ) → record_words ≤ length fs → (y : Index) → put 0 (over (words_of y) fs) ≡ put_made (granted y) fs
 unfolding words_of
 record-put fs h y = words-put 0 (words_of y) fs h
 
@@ -175,7 +175,7 @@ module _ (fs : List ℕ) (r : Record) (e : r ≡ record_in fs) (op : Op) (a : Ar
 
     pub made-left : (d : Verdict Index) → made x d b ≡ call x a op → (n : ℕ) (fs' : List ℕ) → put n fs' ≡ put_made d fs → left n fs' [] b ≡ left_by 0 op fs [] a
     unfolding over
-    made-left (taken y) g = by-record _ g _ (ap (λ (q : Put). left q.number q.words [] b) (sym (record-put fs (eight fs x (sym is ∙ e)) y)))
+    made-left (granted y) g = by-record _ g _ (ap (λ (q : Put). left q.number q.words [] b) (sym (record-put fs (eight fs x (sym is ∙ e)) y)))
     made-left (turned_down k) g = by-record _ g _ (refusal-left 0 fs [] r (e ∙ beside_none fs) x is k b)
 
 -- a refusal, and 13 where there is none

@@ -6,7 +6,7 @@ use native.Mathlib.Omega.{arith}
 use lib.ListN.{length, get_or, drop}
 use borrow.Author.Tests.{le-ltb, lt-ltb}
 use Rattle.lists.specs.Lists.{over}
-use Rattle.index.specs.Verdict.{Verdict, taken, turned_down}
+use Rattle.index.specs.Verdict.{Verdict, granted, turned_down}
 use Rattle.index.specs.Step.{refused}
 use Rattle.index.specs.Answers.{length_is, LaterKept}
 use Rattle.words.specs.Put.{Put, put, put_words, put_answer, put_found}
@@ -40,17 +40,17 @@ module _ (ws : List ℕ) (some : 1 ≤ length ws) where
   refusal-kept k n ws' p = ap (λ (z : Put). drop (word_count n) z.words) p
 
   pub found-told : (f : Verdict ℕ) → (f ≡ turned_down 0 → ⊥) → (n : ℕ) (ws' : List ℕ) → put n ws' ≡ put_found f ws → (found_in n ws' ≡ f) × LaterKept (word_count n) ws ws'
-  found-told (taken m) s n ws' p =
+  found-told (granted m) s n ws' p =
       let w = one_word m n ws' p in
-      (ap (λ (k : ℕ). found_in k ws') w.0 ∙ ap taken w.1.0, subst (λ (k : ℕ). LaterKept (word_count k) ws ws') (sym w.0) w.1.1)
+      (ap (λ (k : ℕ). found_in k ws') w.0 ∙ ap granted w.1.0, subst (λ (k : ℕ). LaterKept (word_count k) ws ws') (sym w.0) w.1.1)
   found-told (turned_down zero) s n ws' p = absurd (s refl)
   found-told (turned_down (suc k)) s n ws' p = (ap (λ (z : Put). found_in z.number z.words) p, refusal-kept (suc k) n ws' p)
 
   pub written-told : (f : Verdict ℕ) → (f ≡ turned_down 0 → ⊥) → (n : ℕ) (ws' : List ℕ) → put n ws' ≡ put_answer (length_is f) ws →
       (written_in n ws' ≡ f) × LaterKept (word_count n) ws ws'
-  written-told (taken m) s n ws' p =
+  written-told (granted m) s n ws' p =
       let w = one_word m n ws' p in
-      (ap (λ (k : ℕ). written_in k ws') w.0 ∙ ap taken w.1.0, subst (λ (k : ℕ). LaterKept (word_count k) ws ws') (sym w.0) w.1.1)
+      (ap (λ (k : ℕ). written_in k ws') w.0 ∙ ap granted w.1.0, subst (λ (k : ℕ). LaterKept (word_count k) ws ws') (sym w.0) w.1.1)
   written-told (turned_down zero) s n ws' p = absurd (s refl)
   written-told (turned_down (suc k)) s n ws' p =
       let q : put n ws' ≡ put (suc k) ws = p ∙ sym (refusal-put (suc k) ws) in

@@ -4,7 +4,7 @@ use Rattle.std.specs.Prelude.{cond, List, [], ℕ, zero, suc, get_or, eqb}
 use Rattle.lists.specs.Lists.{over}
 use Rattle.encode.specs.declared.Header.{Header}
 use Rattle.index.specs.declared.Index.{Index}
-use Rattle.index.specs.Verdict.{Verdict, taken, turned_down}
+use Rattle.index.specs.Verdict.{Verdict, granted, turned_down}
 use Rattle.index.specs.Arrays.{Arrays}
 use Rattle.index.specs.Step.{Op, Answer, refused}
 use Rattle.index.specs.Call.{Result, call}
@@ -62,11 +62,11 @@ reads file fs a =
 
 -- what number and word say: 0 and how many, or a refusal
 abbrev pub found_in : (number : ℕ) → (answer : List ℕ) → Verdict ℕ
-found_in zero ws = taken (get_or ws 0 0)
+found_in zero ws = granted (get_or ws 0 0)
 found_in (suc n) ws = turned_down (suc n)
 
 abbrev pub written_in : (number : ℕ) → (answer : List ℕ) → Verdict ℕ
-written_in zero ws = taken (get_or ws 0 0)
+written_in zero ws = granted (get_or ws 0 0)
 written_in (suc n) ws = turned_down (suc n)
 
 -- how many words are written: one, or none for a refusal

@@ -7,7 +7,7 @@ use Rattle.std.specs.Float.Ieee.{to_bits}
 use Rattle.lists.specs.Lists.{over}
 use Rattle.lists.specs.Keep.{bit}
 use Rattle.index.specs.declared.Index.{Index}
-use Rattle.index.specs.Verdict.{Verdict, taken, turned_down}
+use Rattle.index.specs.Verdict.{Verdict, granted, turned_down}
 use Rattle.index.specs.declared.Added.{Added}
 use Rattle.index.specs.Step.{Answer, refused, done, flag, slot, maybe_slot, maybe_key, score_is, hits, key_hits, size, bytes}
 use Rattle.words.specs.Words.{record_words, words_of}
@@ -51,12 +51,12 @@ put_answer t ws = put_words (in_words t).number (in_words t).words ws
 
 -- the words of the record
 abbrev pub put_made : Verdict Index → (fields : List ℕ) → Put
-put_made (taken x) fs = put_words 0 (words_of x) fs
+put_made (granted x) fs = put_words 0 (words_of x) fs
 put_made (turned_down n) fs = put n fs
 
 -- how many hits
 abbrev pub put_found : Verdict ℕ → (answer : List ℕ) → Put
-put_found (taken m) ws = put_words 0 (m ∷ []) ws
+put_found (granted m) ws = put_words 0 (m ∷ []) ws
 put_found (turned_down n) ws = put n ws
 
 -- ---- the same of two slices: the words of the record, and those of the answer
@@ -75,13 +75,13 @@ put_next x new fs ws =
 
 -- the slot
 abbrev pub put_added : Verdict Added → (fields answer : List ℕ) → PutBoth
-put_added (taken y) fs ws = put_next y.index (y.slot ∷ []) fs ws
+put_added (granted y) fs ws = put_next y.index (y.slot ∷ []) fs ws
 put_added (turned_down n) fs ws = put_both n fs ws
 
 -- yes, or no, which hands back no record
 abbrev pub put_changed : Verdict (Std.Option Index) → (fields answer : List ℕ) → PutBoth
-put_changed (taken (Some x)) fs ws = put_next x (1 ∷ []) fs ws
-put_changed (taken None) fs ws =
+put_changed (granted (Some x)) fs ws = put_next x (1 ∷ []) fs ws
+put_changed (granted None) fs ws =
     let p = put_words 0 (0 ∷ []) ws in
     put_both p.number fs p.words
 put_changed (turned_down n) fs ws = put_both n fs ws

@@ -11,7 +11,7 @@ use lib.Dec.{ltb}
 use borrow.Author.Tests.{lt-ltb, le-ltb}
 use Rattle.lists.specs.Lists.{over}
 use Rattle.index.specs.declared.Index.{Index}
-use Rattle.index.specs.Verdict.{Verdict, taken, turned_down}
+use Rattle.index.specs.Verdict.{Verdict, granted, turned_down}
 use Rattle.index.specs.Arrays.{Arrays}
 use Rattle.index.specs.State.{header_of, state_of}
 use Rattle.index.specs.Fit.{fit}
@@ -79,7 +79,7 @@ module _ (x : Index) (a : Arrays) where
       write-short n f l = (answer (refused 13) (rw (lt-ltb (length old) (length file) (omega arith))), refl)
 
       pub write_done : (v n : ℕ) (new : List ℕ) → ((es : List Entry) → v ≡ version_of (header_of x) es) → n ≡ length file → n ≤ length old
-          → new ≡ sets old 0 (pieces v) → Leaves (taken n) new
+          → new ≡ sets old 0 (pieces v) → Leaves (granted n) new
       unfolding state_of over
       write_done v n new d f l p =
           let first = entries-there file old n new f there in
