@@ -6,7 +6,7 @@ ghost use Rattle.std.specs.Prelude.{◌≡◌, [], ◌∷◌, ◌≤◌, length}
 ghost use Rattle.lists.specs.Lists.{over};
 ghost use Rattle.index.specs.Verdict.{verdict};
 ghost use Rattle.words.specs.Words.{record_words, words_of};
-ghost use Rattle.words.specs.Put.{put, put_words, put_made, put_both, put_next, put_added, put_changed};
+ghost use Rattle.words.specs.Put.{put, put_words, put_count, put_made, put_both, put_next, put_added, put_changed};
 
 use index::{Added, Index};
 use refusal::Refusal;
@@ -47,6 +47,16 @@ pub fn put_word(word: u64, answer: &mut [u64]) -> u8
     }
     answer[0] = word;
     0
+}
+
+// How many hits, or bytes.
+pub fn put_count(counted: Result<usize, Refusal>, answer: &mut [u64]) -> u8
+    ensures { put result answer.new ≡ put_count (verdict counted) answer.old }
+{
+    match counted {
+        Ok(count) => put_word(count as u64, answer),
+        Err(uncounted) => u8::from(uncounted),
+    }
 }
 
 // The words of the record.

@@ -19,7 +19,7 @@ use Rattle.index.specs.Fit.{fit}
 use Rattle.index.specs.Step.{Query, Op, Answer, hits, first_of, when, unless, hits_of, query_refusal}
 use Rattle.lists.specs.Keep.{any}
 use Rattle.index.specs.Call.{call}
-use Rattle.index.specs.Answers.{result_of, hit_count, found, LaterKept}
+use Rattle.index.specs.Answers.{result_of, how_many, found, LaterKept}
 use Rattle.index.proofs.Determined.{pairs-there}
 use Rattle.fit.proofs.Meaning.{meaning}
 use Rattle.fit.proofs.Rooms.{enough}
@@ -30,7 +30,7 @@ use Rattle.asking.proofs.Cells.{scores, cells, hits-nan}
 
 -- what a search leaves: its answer by `tell`, which is `found` or `found_keyed`, and the later places of both slices
 abbrev pub Leaves : Index → Arrays → Op → (tell : Verdict ℕ → List ℕ → List Float → Answer) → Verdict ℕ → (ns ms : List ℕ) → (ss ts : List Float) → Type 0
-Leaves x a op tell r ns ms ss ts = (result_of x a (tell r ms ts) ≡ call x a op) × (LaterKept (hit_count r) ns ms × LaterKept (hit_count r) ss ts)
+Leaves x a op tell r ns ms ss ts = (result_of x a (tell r ms ts) ≡ call x a op) × (LaterKept (how_many r) ns ms × LaterKept (how_many r) ss ts)
 
 -- ---- refusals one after the other
 

@@ -14,7 +14,7 @@ use Rattle.lists.proofs.Entries.{first-and-later}
 use Rattle.lists.proofs.Front.{map-tab}
 use Rattle.index.specs.Verdict.{Verdict, granted, turned_down}
 use Rattle.index.specs.Step.{Answer, refused, hits, key_hits, bytes}
-use Rattle.index.specs.Answers.{hit_count, byte_count, first_entries, first_pairs, found, found_keyed, wrote, LaterKept}
+use Rattle.index.specs.Answers.{how_many, first_entries, first_pairs, found, found_keyed, wrote, LaterKept}
 use Rattle.histories.specs.Histories.{hit_and, hits_read, read, called, Moment, arrival_then, answer, LeaveAlike}
 
 -- ---- what was read
@@ -61,7 +61,7 @@ module _ (f g : ℕ → Option ℕ) (b : Answer) where
   read-hits h xs e = let p = (map-eq-some_iff hits (hits_read h xs)).0 e in (p.0, hits-are h xs p.0 p.1, p.2)
 
   found_alike : (r s : Verdict ℕ) (ns ms : List ℕ) (ss ts : List Float) → read f (found r ns ss) ≡ some b → read g (found s ms ts) ≡ some b →
-      (r ≡ s) × (map f (first_entries (hit_count r) ns) ≡ map g (first_entries (hit_count s) ms)) × (scores_first (hit_count r) ss ≡ scores_first (hit_count s) ts)
+      (r ≡ s) × (map f (first_entries (how_many r) ns) ≡ map g (first_entries (how_many s) ms)) × (scores_first (how_many r) ss ≡ scores_first (how_many s) ts)
   found_alike (granted m) (granted n) ns ms ss ts d e =
       let p = read-hits f (first_pairs m ns ss) d in
       let q = read-hits g (first_pairs n ms ts) e in
@@ -83,7 +83,7 @@ module _ (f g : ℕ → Option ℕ) (b : Answer) where
       let same : m ≡ n = cc in (ap turned_down same, refl, refl)
 
   keyed-alike : (r s : Verdict ℕ) (ns ms : List ℕ) (ss ts : List Float) → read f (found_keyed r ns ss) ≡ some b → read g (found_keyed s ms ts) ≡ some b →
-      (r ≡ s) × (first_entries (hit_count r) ns ≡ first_entries (hit_count s) ms) × (scores_first (hit_count r) ss ≡ scores_first (hit_count s) ts)
+      (r ≡ s) × (first_entries (how_many r) ns ≡ first_entries (how_many s) ms) × (scores_first (how_many r) ss ≡ scores_first (how_many s) ts)
   keyed-alike (granted m) (granted n) ns ms ss ts d e =
       let z : key_hits (first_pairs m ns ss) ≡ key_hits (first_pairs n ms ts) = some-injective _ b d ∙ sym (some-injective _ b e) in
       let same : first_pairs m ns ss ≡ first_pairs n ms ts = cc in
@@ -103,7 +103,7 @@ module _ (f g : ℕ → Option ℕ) (b : Answer) where
       let same : m ≡ n = cc in (ap turned_down same, refl, refl)
 
   written-alike : (r s : Verdict ℕ) (bs cs : List ℕ) → read f (wrote r bs) ≡ some b → read g (wrote s cs) ≡ some b →
-      (r ≡ s) × (first_entries (byte_count r) bs ≡ first_entries (byte_count s) cs)
+      (r ≡ s) × (first_entries (how_many r) bs ≡ first_entries (how_many s) cs)
   written-alike (granted m) (granted n) bs cs d e =
       let z : bytes (first_entries m bs) ≡ bytes (first_entries n cs) = some-injective _ b d ∙ sym (some-injective _ b e) in
       let same : first_entries m bs ≡ first_entries n cs = cc in
@@ -137,7 +137,7 @@ module _ (m n : Moment) (b : Answer) (e : answer m ≡ some b) (k : answer n ≡
         slots = λ numbers scores p q.
             let a = found_alike (arrival_then m) (arrival_then n) b p.handed q.handed p.numbers_after q.numbers_after p.scores_after q.scores_after
             (read_as m _ p.answered e) (read_as n _ q.answered k) in
-            let c : hit_count p.handed ≡ hit_count q.handed = ap hit_count a.0 in (
+            let c : how_many p.handed ≡ how_many q.handed = ap how_many a.0 in (
               a.0,
               a.1,
               later numbers p.numbers_after q.numbers_after _ _ c p.kept.0 q.kept.0,
@@ -146,7 +146,7 @@ module _ (m n : Moment) (b : Answer) (e : answer m ≡ some b) (k : answer n ≡
         keys = λ numbers scores p q.
             let a = keyed-alike (arrival_then m) (arrival_then n) b p.handed q.handed p.numbers_after q.numbers_after p.scores_after q.scores_after
             (read_as m _ p.answered e) (read_as n _ q.answered k) in
-            let c : hit_count p.handed ≡ hit_count q.handed = ap hit_count a.0 in (
+            let c : how_many p.handed ≡ how_many q.handed = ap how_many a.0 in (
               a.0,
               whole numbers p.numbers_after q.numbers_after _ _ c p.kept.0 q.kept.0 0 a.1 p.sized.0 q.sized.0,
               whole scores p.scores_after q.scores_after _ _ c p.kept.1 q.kept.1 +0 a.2 p.sized.1 q.sized.1,
@@ -155,6 +155,6 @@ module _ (m n : Moment) (b : Answer) (e : answer m ≡ some b) (k : answer n ≡
             let a = written-alike (arrival_then m) (arrival_then n) b p.handed q.handed p.file_after q.file_after
             (read_as m _ p.answered e) (read_as n _ q.answered k) in (
               a.0,
-              whole file p.file_after q.file_after _ _ (ap byte_count a.0) p.kept q.kept 0 a.1 p.sized q.sized,
+              whole file p.file_after q.file_after _ _ (ap how_many a.0) p.kept q.kept 0 a.1 p.sized q.sized,
             );
       }

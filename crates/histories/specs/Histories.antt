@@ -32,7 +32,7 @@ use Rattle.index.specs.Step.{Item, Query, Answer, refused, done, flag, slot, may
 use Rattle.index.specs.Call.{Result, call}
 use Rattle.index.specs.Ties.{alike}
 use Rattle.index.specs.OneTrait.{one_trait, trait_score_of}
-use Rattle.index.specs.Answers.{result_of, hit_count, byte_count, first_entries, found, found_keyed, wrote, LaterKept}
+use Rattle.index.specs.Answers.{result_of, how_many, first_entries, found, found_keyed, wrote, LaterKept}
 use Rattle.index.specs.Make.{new_header, begun, make}
 use Rattle.index.specs.Read.{count_in, header_in, key_from, entries_in, slot_in, read_into}
 use Rattle.index.specs.History.{HistoryOp, add, add_keyed, add_multi, relabel, remove, compact, score, search, search_keyed, key_of, contains, slot_of, file_length, write, op_at}
@@ -500,7 +500,7 @@ pub record Leaves (shown : Verdict ℕ → List ℕ → List Float → Answer) (
   pub numbers_after : List ℕ
   pub scores_after : List Float
   pub answered : shown handed numbers_after scores_after ≡ (called m.before m.op).answer
-  pub kept : LaterKept (hit_count handed) numbers numbers_after × LaterKept (hit_count handed) scores scores_after
+  pub kept : LaterKept (how_many handed) numbers numbers_after × LaterKept (how_many handed) scores scores_after
   pub sized : (length numbers_after ≡ length numbers) × (length scores_after ≡ length scores)
 
 -- and a writing in the file that it was lent
@@ -508,16 +508,16 @@ pub record Writes (m : Moment) (file : List ℕ) : Type 0 where
   pub handed : Verdict ℕ
   pub file_after : List ℕ
   pub answered : wrote handed file_after ≡ (called m.before m.op).answer
-  pub kept : LaterKept (byte_count handed) file file_after
+  pub kept : LaterKept (how_many handed) file file_after
   pub sized : length file_after ≡ length file
 
 -- of a search by slot: the arrivals that it lists in the first places, and what stands in the later ones
 module _ {m : Moment} {numbers : List ℕ} {scores : List Float} (p : Leaves found m numbers scores) where
   abbrev pub listed_in : List (Option ℕ)
-  listed_in = map (arrival_then m) (first_entries (hit_count p.handed) p.numbers_after)
+  listed_in = map (arrival_then m) (first_entries (how_many p.handed) p.numbers_after)
 
   abbrev pub later_in : List ℕ
-  later_in = drop (hit_count p.handed) p.numbers_after
+  later_in = drop (how_many p.handed) p.numbers_after
 
 -- Two calls whose lent slices held the same leave the same in them: slots by arrival, all else as it stands.
 pub record LeaveAlike (m n : Moment) : Type 0 where

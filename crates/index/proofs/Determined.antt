@@ -11,7 +11,7 @@ use Rattle.lists.proofs.Laws.{get_d_default, length-tab, get_or-tab}
 use Rattle.lists.proofs.Front.{get_d_front, get_or-over-map, drop-over, front_rest, tab-is}
 use Rattle.index.specs.Verdict.{Verdict, granted, turned_down}
 use Rattle.index.specs.Step.{refused, hits, key_hits, bytes}
-use Rattle.index.specs.Answers.{hit_count, byte_count, first_entries, first_pairs, found, found_keyed, wrote, LaterKept}
+use Rattle.index.specs.Answers.{how_many, first_entries, first_pairs, found, found_keyed, wrote, LaterKept}
 
 module _ (es : List (ℕ × Float)) (ns : List ℕ) (ss : List Float) where
   first-pairs : first_pairs (length es) (over (map (λ e. e.0) es) ns) (over (map (λ e. e.1) es) ss) ≡ es
@@ -42,8 +42,8 @@ module _ (bs file : List ℕ) where
 pub record Left (ns : List ℕ) (ss : List Float) (r : Verdict ℕ) (ms : List ℕ) (ts : List Float) : Type 0 where
   pub numbers-long : length ms ≡ length ns
   pub scores-long : length ts ≡ length ss
-  pub numbers-kept : LaterKept (hit_count r) ns ms
-  pub scores-kept : LaterKept (hit_count r) ss ts
+  pub numbers-kept : LaterKept (how_many r) ns ms
+  pub scores-kept : LaterKept (how_many r) ss ts
 
 module _ (ns : List ℕ) (ss : List Float) (ms ms' : List ℕ) (ts ts' : List Float) where
   abbrev Same : (r r' : Verdict ℕ) → Type 0
@@ -103,7 +103,7 @@ module _ (file next next' : List ℕ) (long : length next ≡ length file) (long
       many : m ≡ m'
       many = sym (length-tab (λ i. get_or next i 0) m) ∙ ap length e ∙ length-tab (λ i. get_or next' i 0) m'
 
-  pub wrote-determines : (r r' : Verdict ℕ) → LaterKept (byte_count r) file next → LaterKept (byte_count r') file next' → wrote r next ≡ wrote r' next' → (r ≡ r') × (next ≡ next')
+  pub wrote-determines : (r r' : Verdict ℕ) → LaterKept (how_many r) file next → LaterKept (how_many r') file next' → wrote r next ≡ wrote r' next' → (r ≡ r') × (next ≡ next')
   wrote-determines (granted m) (granted m') l l' e = same_bytes m m' l l' (let f : bytes (first_entries m next) ≡ bytes (first_entries m' next') = e in cc)
   wrote-determines (turned_down n) (turned_down n') l l' e = (ap turned_down (let f : refused n ≡ refused n' = e in cc), l ∙ sym l')
   wrote-determines (granted m) (turned_down n) l l' e = absurd (let f : bytes (first_entries m next) ≡ refused n = e in let z : ◌≡◌ {A = ℕ} 0 1 = cc in omega arith)

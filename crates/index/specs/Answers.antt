@@ -59,13 +59,9 @@ length_is (turned_down n) = refused n
 -- ---- searches and writing, which hand a list or bytes back in the first places of lent slices: the answer says in how many
 
 -- how many places the answer takes: none for a refusal
-abbrev pub hit_count : Verdict ℕ → ℕ
-hit_count (granted m) = m
-hit_count (turned_down n) = 0
-
-abbrev pub byte_count : Verdict ℕ → ℕ
-byte_count (granted m) = m
-byte_count (turned_down n) = 0
+abbrev pub how_many : Verdict ℕ → ℕ
+how_many (granted m) = m
+how_many (turned_down n) = 0
 
 -- The first m entries of a slice, and the first m of two in pairs. An m past the end counts too, so that the list tells m.
 abbrev pub first_entries : (m : ℕ) → List ℕ → List ℕ

@@ -7,7 +7,7 @@ ghost use Rattle.index.specs.Verdict.{verdict};
 ghost use Rattle.index.specs.Step as Step;
 ghost use Rattle.index.specs.Step.{query_of};
 ghost use Rattle.index.specs.Call.{call};
-ghost use Rattle.index.specs.Answers.{result_of, hit_count, found, LaterKept};
+ghost use Rattle.index.specs.Answers.{result_of, how_many, found, LaterKept};
 
 use index::{Index, Lent};
 use refusal::Refusal;
@@ -25,8 +25,8 @@ pub fn search(
     ensures answers { let a = contents arrays.now in
         result_of index a (found (verdict result) slots.new scores.new)
         ≡ call index a (Step.search (query_of query.now) k (min (length slots.old) (length scores.old))) }
-    ensures later_kept { LaterKept (hit_count (verdict result)) slots.old slots.new
-        × LaterKept (hit_count (verdict result)) scores.old scores.new }
+    ensures later_kept { LaterKept (how_many (verdict result)) slots.old slots.new
+        × LaterKept (how_many (verdict result)) scores.old scores.new }
 {
     asking::check_search(index, arrays, query, k, slots.len(), scores.len())?;
     let Ok(m) = hits::list(index, arrays, arrays.alive, query, k, slots, scores) else {

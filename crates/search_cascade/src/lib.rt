@@ -8,7 +8,7 @@ ghost use Rattle.index.specs.Verdict.{verdict};
 ghost use Rattle.index.specs.Step as Step;
 ghost use Rattle.index.specs.Step.{query_of};
 ghost use Rattle.index.specs.Call.{call};
-ghost use Rattle.index.specs.Answers.{result_of, hit_count, found, LaterKept};
+ghost use Rattle.index.specs.Answers.{result_of, how_many, found, LaterKept};
 ghost use Rattle.search_cascade.specs.Cascade.{enabled, cascade_fault};
 
 use index::{Index, Lent};
@@ -66,8 +66,8 @@ pub fn search_cascade(
     ensures answers { let a = contents arrays.now in
         result_of index a (found (verdict result) slots.new scores.new)
         ≡ call index a (Step.search_cascade (query_of query.now) k r (min (length slots.old) (length scores.old))) }
-    ensures later_kept { LaterKept (hit_count (verdict result)) slots.old slots.new
-        × LaterKept (hit_count (verdict result)) scores.old scores.new }
+    ensures later_kept { LaterKept (how_many (verdict result)) slots.old slots.new
+        × LaterKept (how_many (verdict result)) scores.old scores.new }
 {
     check(index, arrays, query, k, slots.len(), scores.len())?;
     // A mark for each of 65,536 slots. The contents don't matter.

@@ -3,24 +3,12 @@
 
 ghost use Rattle.std.specs.Prelude.{◌≡◌, min, length};
 ghost use Rattle.index.specs.Arrays.{lent};
-ghost use Rattle.index.specs.Verdict.{verdict};
 ghost use Rattle.index.specs.Step as Step;
 ghost use Rattle.index.specs.Step.{query_of};
-ghost use Rattle.index.specs.Answers.{hit_count, found, found_keyed, LaterKept};
-ghost use Rattle.words.specs.Put.{put, put_found};
-ghost use Rattle.words.specs.Exports.{found_in, word_count, answer_beside};
+ghost use Rattle.index.specs.Answers.{how_many, found, found_keyed, LaterKept};
+ghost use Rattle.words.specs.Exports.{count_in_words, word_count, answer_beside};
 
 use index::Lent;
-use refusal::Refusal;
-
-fn put_found(found: Result<usize, Refusal>, answer: &mut [u64]) -> u8
-    ensures { put result answer.new ≡ put_found (verdict found) answer.old }
-{
-    match found {
-        Ok(count) => answer_words::put_word(count as u64, answer),
-        Err(refusal) => u8::from(refusal),
-    }
-}
 
 #[unsafe(no_mangle)]
 pub extern "C" fn vecq_raw_search(
@@ -41,10 +29,10 @@ pub extern "C" fn vecq_raw_search(
 ) -> u8
     ensures answers { let a = lent codes.now scales.now keys.now keyed.now held.now alive.now codes2.now scales2.now in
         let op = Step.search (query_of query.now) k (min (length slots.old) (length scores.old)) in
-        found (found_in result answer.new) slots.new scores.new
+        found (count_in_words result answer.new) slots.new scores.new
         ≡ answer_beside op a fields.now answer.old }
     ensures answer_kept { LaterKept (word_count result) answer.old answer.new }
-    ensures lists_kept { let m = hit_count (found_in result answer.new) in
+    ensures lists_kept { let m = how_many (count_in_words result answer.new) in
         LaterKept m slots.old slots.new × LaterKept m scores.old scores.new }
 {
     let Some(index) = words::record_beside(fields, answer, 1) else {
@@ -61,7 +49,7 @@ pub extern "C" fn vecq_raw_search(
         scales2,
     };
     let found = search::search(index, &arrays, query, k, slots, scores);
-    put_found(found, answer)
+    answer_words::put_count(found, answer)
 }
 
 #[unsafe(no_mangle)]
@@ -83,10 +71,10 @@ pub extern "C" fn vecq_raw_search_keyed(
 ) -> u8
     ensures answers { let a = lent codes.now scales.now keys.now keyed.now held.now alive.now codes2.now scales2.now in
         let op = Step.search_keyed (query_of query.now) k (min (length names.old) (length scores.old)) in
-        found_keyed (found_in result answer.new) names.new scores.new
+        found_keyed (count_in_words result answer.new) names.new scores.new
         ≡ answer_beside op a fields.now answer.old }
     ensures answer_kept { LaterKept (word_count result) answer.old answer.new }
-    ensures lists_kept { let m = hit_count (found_in result answer.new) in
+    ensures lists_kept { let m = how_many (count_in_words result answer.new) in
         LaterKept m names.old names.new × LaterKept m scores.old scores.new }
 {
     let Some(index) = words::record_beside(fields, answer, 1) else {
@@ -103,7 +91,7 @@ pub extern "C" fn vecq_raw_search_keyed(
         scales2,
     };
     let found_keyed = search_keyed::search_keyed(index, &arrays, query, k, names, scores);
-    put_found(found_keyed, answer)
+    answer_words::put_count(found_keyed, answer)
 }
 
 #[unsafe(no_mangle)]
@@ -126,10 +114,10 @@ pub extern "C" fn vecq_raw_search_cascade(
 ) -> u8
     ensures answers { let a = lent codes.now scales.now keys.now keyed.now held.now alive.now codes2.now scales2.now in
         let op = Step.search_cascade (query_of query.now) k r (min (length slots.old) (length scores.old)) in
-        found (found_in result answer.new) slots.new scores.new
+        found (count_in_words result answer.new) slots.new scores.new
         ≡ answer_beside op a fields.now answer.old }
     ensures answer_kept { LaterKept (word_count result) answer.old answer.new }
-    ensures lists_kept { let m = hit_count (found_in result answer.new) in
+    ensures lists_kept { let m = how_many (count_in_words result answer.new) in
         LaterKept m slots.old slots.new × LaterKept m scores.old scores.new }
 {
     let Some(index) = words::record_beside(fields, answer, 1) else {
@@ -146,5 +134,5 @@ pub extern "C" fn vecq_raw_search_cascade(
         scales2,
     };
     let found_cascade = search_cascade::search_cascade(index, &arrays, query, k, r, slots, scores);
-    put_found(found_cascade, answer)
+    answer_words::put_count(found_cascade, answer)
 }

@@ -8,7 +8,7 @@ ghost use Rattle.index.specs.Verdict.{verdict};
 ghost use Rattle.index.specs.Step as Step;
 ghost use Rattle.index.specs.Step.{query_of};
 ghost use Rattle.index.specs.Call.{call};
-ghost use Rattle.index.specs.Answers.{result_of, hit_count, found_keyed, LaterKept};
+ghost use Rattle.index.specs.Answers.{result_of, how_many, found_keyed, LaterKept};
 ghost use Rattle.asking.specs.Faults.{search_fault};
 ghost use Rattle.search_keyed.specs.Named.{listed_count, keyed_of, named_answer};
 
@@ -61,8 +61,8 @@ fn search_in<const N: usize>(
     ensures answers { let a = contents arrays.now in
         result_of index a (found_keyed (verdict result) names.new scores.new)
         ≡ call index a (Step.search_keyed (query_of query.now) k (min (length names.old) (length scores.old))) }
-    ensures later_kept { LaterKept (hit_count (verdict result)) names.old names.new
-        × LaterKept (hit_count (verdict result)) scores.old scores.new }
+    ensures later_kept { LaterKept (how_many (verdict result)) names.old names.new
+        × LaterKept (how_many (verdict result)) scores.old scores.new }
 {
     let mut slot_places = [0u32; N];
     let mut score_places = [0.0f32; N];
@@ -85,8 +85,8 @@ pub fn search_keyed(
     ensures answers { let a = contents arrays.now in
         result_of index a (found_keyed (verdict result) names.new scores.new)
         ≡ call index a (Step.search_keyed (query_of query.now) k (min (length names.old) (length scores.old))) }
-    ensures later_kept { LaterKept (hit_count (verdict result)) names.old names.new
-        × LaterKept (hit_count (verdict result)) scores.old scores.new }
+    ensures later_kept { LaterKept (how_many (verdict result)) names.old names.new
+        × LaterKept (how_many (verdict result)) scores.old scores.new }
 {
     asking::check_search(index, arrays, query, k, names.len(), scores.len())?;
     // Clearing working arrays for 65,536 hits would take longer than a search for a few.

@@ -18,16 +18,16 @@ use Rattle.index.specs.Arrays.{Arrays}
 use Rattle.index.specs.State.{record_of}
 use Rattle.index.specs.Step.{first_of, Op, Answer, refused, flag, slot}
 use Rattle.index.specs.Call.{Result, call}
-use Rattle.index.specs.Answers.{result_of, made, added, changed, asked, key_is, held_is, scored, length_is, hit_count, byte_count, wrote, LaterKept}
+use Rattle.index.specs.Answers.{result_of, made, added, changed, asked, key_is, held_is, scored, length_is, how_many, wrote, LaterKept}
 use Rattle.index.proofs.Refusals.{never-0}
 use Rattle.index.specs.Make.{Begun, begun, make}
 use Rattle.index.specs.Read.{state_in, read_refusal, read_unless, read_into}
 use Rattle.std.specs.Prelude.{Bool, true, false, Option, Some, None}
 use Rattle.words.specs.Words.{Record, record_words, words_of, record_in, record_beside}
-use Rattle.words.specs.Put.{Put, put, in_words, put_answer, put_made, put_found, PutBoth, put_both, put_next, put_added, put_changed}
-use Rattle.words.specs.Exports.{by_record, Left, left, leaves, left_by, makes, reads, found_in, written_in, word_count, answer_beside}
+use Rattle.words.specs.Put.{Put, put, in_words, put_answer, put_made, put_count, PutBoth, put_both, put_next, put_added, put_changed}
+use Rattle.words.specs.Exports.{by_record, Left, left, leaves, left_by, makes, reads, count_in_words, word_count, answer_beside}
 use Rattle.words.proofs.Records.{eight, beside, written-again}
-use Rattle.words.proofs.Words.{words-short, words-put, found-told, written-told}
+use Rattle.words.proofs.Words.{words-short, words-put, count-told}
 
 -- by the record that a call for C read
 by-misfit : {A : Type 0} (r : Record) (m : A) (f : Index → A) → r ≡ None → m ≡ by_record r m f
@@ -133,23 +133,23 @@ module _ (fs ws : List ℕ) (r : Record) (e : r ≡ record_beside 1 fs ws) where
       -- `tell` is `found` or `found_keyed`
       pub list_done : (tell : Verdict ℕ → List ℕ → List Float → Answer) → ((n : ℕ) (ns : List ℕ) (ss : List Float) → tell (turned_down n) ns ss ≡ refused n) →
           (f : Verdict ℕ) (ns ms : List ℕ) (ss ts : List Float) →
-          (result_of x b (tell f ms ts) ≡ call x a op) × (LaterKept (hit_count f) ns ms × LaterKept (hit_count f) ss ts) →
-          (n : ℕ) (ws' : List ℕ) → put n ws' ≡ put_found f ws →
-          (tell (found_in n ws') ms ts ≡ answer_beside op a fs ws)
-          × (LaterKept (word_count n) ws ws' × (LaterKept (hit_count (found_in n ws')) ns ms × LaterKept (hit_count (found_in n ws')) ss ts))
+          (result_of x b (tell f ms ts) ≡ call x a op) × (LaterKept (how_many f) ns ms × LaterKept (how_many f) ss ts) →
+          (n : ℕ) (ws' : List ℕ) → put n ws' ≡ put_count f ws →
+          (tell (count_in_words n ws') ms ts ≡ answer_beside op a fs ws)
+          × (LaterKept (word_count n) ws ws' × (LaterKept (how_many (count_in_words n ws')) ns ms × LaterKept (how_many (count_in_words n ws')) ss ts))
       list_done tell of f ns ms ss ts g n ws' p =
           let some : f ≡ turned_down 0 → ⊥ = λ h. not-0 (tell f ms ts) g.0 (ap (λ (k : Verdict ℕ). tell k ms ts) h ∙ of 0 ms ts) in
-          let told = found-told ws (place) f some n ws' p in
-          subst (λ (k : Verdict ℕ). (tell k ms ts ≡ answer_beside op a fs ws) × (LaterKept (word_count n) ws ws' × (LaterKept (hit_count k) ns ms × LaterKept (hit_count k) ss ts)))
+          let told = count-told ws (place) f some n ws' p in
+          subst (λ (k : Verdict ℕ). (tell k ms ts ≡ answer_beside op a fs ws) × (LaterKept (word_count n) ws ws' × (LaterKept (how_many k) ns ms × LaterKept (how_many k) ss ts)))
           (sym told.0) (by_answer (tell f ms ts) g.0, (told.1, g.1))
 
-      pub write_done : (f : Verdict ℕ) (file next : List ℕ) → (result_of x b (wrote f next) ≡ call x a op) × LaterKept (byte_count f) file next →
-          (n : ℕ) (ws' : List ℕ) → put n ws' ≡ put_answer (length_is f) ws →
-          (wrote (written_in n ws') next ≡ answer_beside op a fs ws) × (LaterKept (word_count n) ws ws' × LaterKept (byte_count (written_in n ws')) file next)
+      pub write_done : (f : Verdict ℕ) (file next : List ℕ) → (result_of x b (wrote f next) ≡ call x a op) × LaterKept (how_many f) file next →
+          (n : ℕ) (ws' : List ℕ) → put n ws' ≡ put_count f ws →
+          (wrote (count_in_words n ws') next ≡ answer_beside op a fs ws) × (LaterKept (word_count n) ws ws' × LaterKept (how_many (count_in_words n ws')) file next)
       write_done f file next g n ws' p =
           let some : f ≡ turned_down 0 → ⊥ = λ h. not-0 (wrote f next) g.0 (ap (λ (k : Verdict ℕ). wrote k next) h) in
-          let told = written-told ws (place) f some n ws' p in
-          subst (λ (k : Verdict ℕ). (wrote k next ≡ answer_beside op a fs ws) × (LaterKept (word_count n) ws ws' × LaterKept (byte_count k) file next))
+          let told = count-told ws (place) f some n ws' p in
+          subst (λ (k : Verdict ℕ). (wrote k next ≡ answer_beside op a fs ws) × (LaterKept (word_count n) ws ws' × LaterKept (how_many k) file next))
           (sym told.0) (by_answer (wrote f next) g.0, (told.1, g.1))
 
 -- ---- the record alone

@@ -9,8 +9,8 @@ use Rattle.lists.specs.Lists.{over}
 use Rattle.index.specs.Verdict.{Verdict, granted, turned_down}
 use Rattle.index.specs.Step.{refused}
 use Rattle.index.specs.Answers.{length_is, LaterKept}
-use Rattle.words.specs.Put.{Put, put, put_words, put_answer, put_found}
-use Rattle.words.specs.Exports.{found_in, written_in, word_count}
+use Rattle.words.specs.Put.{Put, put, put_words, put_answer, put_count}
+use Rattle.words.specs.Exports.{count_in_words, word_count}
 
 module _ (n : ℕ) (new ws : List ℕ) where
   pub words-short : length ws < length new → put 13 ws ≡ put_words n new ws
@@ -39,19 +39,14 @@ module _ (ws : List ℕ) (some : 1 ≤ length ws) where
   refusal-kept : (k n : ℕ) (ws' : List ℕ) → put n ws' ≡ put k ws → LaterKept (word_count n) ws ws'
   refusal-kept k n ws' p = ap (λ (z : Put). drop (word_count n) z.words) p
 
-  pub found-told : (f : Verdict ℕ) → (f ≡ turned_down 0 → ⊥) → (n : ℕ) (ws' : List ℕ) → put n ws' ≡ put_found f ws → (found_in n ws' ≡ f) × LaterKept (word_count n) ws ws'
-  found-told (granted m) s n ws' p =
+  pub count-told : (f : Verdict ℕ) → (f ≡ turned_down 0 → ⊥) → (n : ℕ) (ws' : List ℕ) → put n ws' ≡ put_count f ws → (count_in_words n ws' ≡ f) × LaterKept (word_count n) ws ws'
+  count-told (granted m) s n ws' p =
       let w = one_word m n ws' p in
-      (ap (λ (k : ℕ). found_in k ws') w.0 ∙ ap granted w.1.0, subst (λ (k : ℕ). LaterKept (word_count k) ws ws') (sym w.0) w.1.1)
-  found-told (turned_down zero) s n ws' p = absurd (s refl)
-  found-told (turned_down (suc k)) s n ws' p = (ap (λ (z : Put). found_in z.number z.words) p, refusal-kept (suc k) n ws' p)
+      (ap (λ (k : ℕ). count_in_words k ws') w.0 ∙ ap granted w.1.0, subst (λ (k : ℕ). LaterKept (word_count k) ws ws') (sym w.0) w.1.1)
+  count-told (turned_down zero) s n ws' p = absurd (s refl)
+  count-told (turned_down (suc k)) s n ws' p = (ap (λ (z : Put). count_in_words z.number z.words) p, refusal-kept (suc k) n ws' p)
 
-  pub written-told : (f : Verdict ℕ) → (f ≡ turned_down 0 → ⊥) → (n : ℕ) (ws' : List ℕ) → put n ws' ≡ put_answer (length_is f) ws →
-      (written_in n ws' ≡ f) × LaterKept (word_count n) ws ws'
-  written-told (granted m) s n ws' p =
-      let w = one_word m n ws' p in
-      (ap (λ (k : ℕ). written_in k ws') w.0 ∙ ap granted w.1.0, subst (λ (k : ℕ). LaterKept (word_count k) ws ws') (sym w.0) w.1.1)
-  written-told (turned_down zero) s n ws' p = absurd (s refl)
-  written-told (turned_down (suc k)) s n ws' p =
-      let q : put n ws' ≡ put (suc k) ws = p ∙ sym (refusal-put (suc k) ws) in
-      (ap (λ (z : Put). written_in z.number z.words) q, refusal-kept (suc k) n ws' q)
+-- the count by the answer that it is in
+pub count-answer : (f : Verdict ℕ) (ws : List ℕ) → put_count f ws ≡ put_answer (length_is f) ws
+count-answer (granted m) ws = refl
+count-answer (turned_down n) ws = refusal-put n ws

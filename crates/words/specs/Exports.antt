@@ -61,13 +61,9 @@ reads file fs a =
 -- ---- searches and writing: they change no record, and their answer is in the number, the first word of `answer` and the lent slices
 
 -- what number and word say: 0 and how many, or a refusal
-abbrev pub found_in : (number : ℕ) → (answer : List ℕ) → Verdict ℕ
-found_in zero ws = granted (get_or ws 0 0)
-found_in (suc n) ws = turned_down (suc n)
-
-abbrev pub written_in : (number : ℕ) → (answer : List ℕ) → Verdict ℕ
-written_in zero ws = granted (get_or ws 0 0)
-written_in (suc n) ws = turned_down (suc n)
+abbrev pub count_in_words : (number : ℕ) → (answer : List ℕ) → Verdict ℕ
+count_in_words zero ws = granted (get_or ws 0 0)
+count_in_words (suc n) ws = turned_down (suc n)
 
 -- how many words are written: one, or none for a refusal
 abbrev pub word_count : (number : ℕ) → ℕ

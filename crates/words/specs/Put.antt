@@ -54,10 +54,10 @@ abbrev pub put_made : Verdict Index → (fields : List ℕ) → Put
 put_made (granted x) fs = put_words 0 (words_of x) fs
 put_made (turned_down n) fs = put n fs
 
--- how many hits
-abbrev pub put_found : Verdict ℕ → (answer : List ℕ) → Put
-put_found (granted m) ws = put_words 0 (m ∷ []) ws
-put_found (turned_down n) ws = put n ws
+-- how many hits, or bytes
+abbrev pub put_count : Verdict ℕ → (answer : List ℕ) → Put
+put_count (granted m) ws = put_words 0 (m ∷ []) ws
+put_count (turned_down n) ws = put n ws
 
 -- ---- the same of two slices: the words of the record, and those of the answer
 

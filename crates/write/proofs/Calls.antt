@@ -18,7 +18,7 @@ use Rattle.index.specs.Fit.{fit}
 use Rattle.index.specs.File.{Entry, version_of}
 use Rattle.index.specs.Step.{Answer, refused, size, bytes, file_length, write, live_from, file_bytes, answered, when, unless, step}
 use Rattle.index.specs.Call.{Result, call}
-use Rattle.index.specs.Answers.{result_of, byte_count, wrote, LaterKept}
+use Rattle.index.specs.Answers.{result_of, how_many, wrote, LaterKept}
 use Rattle.index.proofs.Calls.{call-misfit, call-answered}
 use Rattle.index.proofs.Determined.{entries-there}
 use Rattle.write.specs.Pieces.{file_pieces}
@@ -65,7 +65,7 @@ module _ (x : Index) (a : Arrays) where
   module _ (old : List ℕ) where
     -- what the call leaves: its answer, and the later places of the file
     abbrev Leaves : Verdict ℕ → (next : List ℕ) → Type 0
-    Leaves r next = (result_of x a (wrote r next) ≡ call x a (write (length old))) × LaterKept (byte_count r) old next
+    Leaves r next = (result_of x a (wrote r next) ≡ call x a (write (length old))) × LaterKept (how_many r) old next
 
     pub write-misfit : (k : ℕ) → fit x a ≡ false → k ≡ 13 → Leaves (turned_down k) old
     write-misfit k e f = (ap (λ (n : ℕ). result_of x a (refused n)) f ∙ sym (call-misfit x a (write (length old)) e), refl)

@@ -9,7 +9,7 @@ ghost use Rattle.index.specs.State.{header_of};
 ghost use Rattle.index.specs.File.{le_bytes, width_byte, head_bytes};
 ghost use Rattle.index.specs.Step as Step;
 ghost use Rattle.index.specs.Call.{call};
-ghost use Rattle.index.specs.Answers.{result_of, byte_count, wrote, LaterKept};
+ghost use Rattle.index.specs.Answers.{result_of, how_many, wrote, LaterKept};
 ghost use Rattle.layout.specs.Counts.{entry_at};
 ghost use Rattle.write.specs.Put.{Room, Put};
 ghost use Rattle.write.specs.Pieces.{in_order, scale_piece, code_piece, key_piece, stage_pieces, second_pieces, file_pieces};
@@ -211,7 +211,7 @@ impl Writer<'_> {
 pub fn to_bytes(index: Index, arrays: &Lent<'_>, file: &mut [u8]) -> Result<usize, Refusal>
     ensures answers { let a = contents arrays.now in
         result_of index a (wrote (verdict result) file.new) ≡ call index a (Step.write (length file.old)) }
-    ensures later_kept { LaterKept (byte_count (verdict result)) file.old file.new }
+    ensures later_kept { LaterKept (how_many (verdict result)) file.old file.new }
 {
     let length = layout::file_length(index, arrays)?;
     if file.len() < length {

@@ -3,24 +3,12 @@
 
 ghost use Rattle.std.specs.Prelude.{◌≡◌, length};
 ghost use Rattle.index.specs.Arrays.{lent};
-ghost use Rattle.index.specs.Verdict.{verdict};
 ghost use Rattle.index.specs.Step as Step;
 ghost use Rattle.index.specs.Step.{file_length};
-ghost use Rattle.index.specs.Answers.{length_is, byte_count, wrote, LaterKept};
-ghost use Rattle.words.specs.Put.{put, put_answer};
-ghost use Rattle.words.specs.Exports.{left, left_by, written_in, word_count, answer_beside};
+ghost use Rattle.index.specs.Answers.{how_many, wrote, LaterKept};
+ghost use Rattle.words.specs.Exports.{left, left_by, count_in_words, word_count, answer_beside};
 
 use index::Lent;
-use refusal::Refusal;
-
-fn put_written(written: Result<usize, Refusal>, answer: &mut [u64]) -> u8
-    ensures { put result answer.new ≡ put_answer (length_is (verdict written)) answer.old }
-{
-    match written {
-        Ok(count) => answer_words::put_word(count as u64, answer),
-        Err(refusal) => u8::from(refusal),
-    }
-}
 
 #[unsafe(no_mangle)]
 pub extern "C" fn vecq_raw_file_length(
@@ -43,7 +31,7 @@ pub extern "C" fn vecq_raw_file_length(
     };
     let arrays = Lent { codes, scales, keys, keyed, held, alive, codes2, scales2 };
     let length = layout::file_length(index, &arrays);
-    put_written(length, answer)
+    answer_words::put_count(length, answer)
 }
 
 #[unsafe(no_mangle)]
@@ -62,14 +50,14 @@ pub extern "C" fn vecq_raw_to_bytes(
 ) -> u8
     ensures answers { let a = lent codes.now scales.now keys.now keyed.now held.now alive.now codes2.now scales2.now in
         let op = Step.write (length file.old) in
-        wrote (written_in result answer.new) file.new ≡ answer_beside op a fields.now answer.old }
+        wrote (count_in_words result answer.new) file.new ≡ answer_beside op a fields.now answer.old }
     ensures answer_kept { LaterKept (word_count result) answer.old answer.new }
-    ensures file_kept { LaterKept (byte_count (written_in result answer.new)) file.old file.new }
+    ensures file_kept { LaterKept (how_many (count_in_words result answer.new)) file.old file.new }
 {
     let Some(index) = words::record_beside(fields, answer, 1) else {
         return 13;
     };
     let arrays = Lent { codes, scales, keys, keyed, held, alive, codes2, scales2 };
     let written = write::to_bytes(index, &arrays, file);
-    put_written(written, answer)
+    answer_words::put_count(written, answer)
 }

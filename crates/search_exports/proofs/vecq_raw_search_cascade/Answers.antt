@@ -9,5 +9,5 @@ returns-in_default-clause-answers c = no_record _ _ _ c.record_beside.ensures _ 
 
 pub returns : goal.returns
 returns c =
-    let m = list_done _ _ _ c.record_beside.ensures _ c.in-Some.is _ _ _ found (λ n ns ss. refl) (verdict c.search_cascade-found_cascade.result) _ _ _ _ (c.search_cascade-found_cascade.ensures.answers, c.search_cascade-found_cascade.ensures.later_kept) _ _ c.put_found.ensures in
+    let m = list_done _ _ _ c.record_beside.ensures _ c.in-Some.is _ _ _ found (λ n ns ss. refl) (verdict c.search_cascade-found_cascade.result) _ _ _ _ (c.search_cascade-found_cascade.ensures.answers, c.search_cascade-found_cascade.ensures.later_kept) _ _ c.put_count.ensures in
     record { answers = m.0; answer_kept = m.1.0; lists_kept = m.1.1 }

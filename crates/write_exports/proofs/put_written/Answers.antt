@@ -1,5 +1,0 @@
-use Rattle.words.proofs.Words.{refusal-put}
-use Rattle.write_exports.proofs.put_written.Goals as goal
-
-pub returns-in-Err : goal.returns-in-Err
-returns-in-Err c = rw (c.in-Err.is, c.from.ensures) (refusal-put _ _)
