@@ -36,7 +36,7 @@ fn main(rt: HostRuntime) {
     run(&mut Lines::new(&mut reader, &mut buf), &mut out);
 }
 
-// Answers line after line.
+// Answers line after line. `leaves` has the same loop: a function for both would take `answer` as a closure, and need a crate for these few lines.
 fn run<R: Read>(lines: &mut Lines<'_, R>, out: &mut [u8]) {
     for _ in 0..u64::MAX {
         let Some(found) = lines.next_line() else {

@@ -1044,7 +1044,7 @@ fn places(call: Call) -> usize {
 
 // ---- answers in words
 
-// What a call answers in a word or two.
+// What a call answers in a word or two: an enum of its own, since most of the kinds are neither an Option nor a Result.
 #[derive(Drop)]
 enum Reply {
     Unreadable,

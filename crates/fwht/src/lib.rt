@@ -23,6 +23,7 @@ trait Turn {
     ghost places: { PLACES ≡ 2 ^ spans };
 }
 
+// A turn is its passes written out, one entry a line: loops over the passes and pairs of so few entries are no plainer. What the three share is `over_columns` and `over_blocks`.
 struct Pair;
 
 impl Turn for Pair {
@@ -169,6 +170,7 @@ pub fn fwht(v: &mut [f32])
     if padding::padded_dim(n) != n {
         return;
     }
+    // A while: h grows by factors of four.
     let mut h = first_spans(v);
     while h < n / 2 {
         over_blocks::<Quad>(v, h);

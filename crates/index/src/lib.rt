@@ -17,7 +17,7 @@ pub struct Index {
     pub cascade: bool,
 }
 
-// The eight arrays that a caller lends to be read (specs/Arrays.antt).
+// The eight arrays that a caller lends to be read (specs/Arrays.antt). They stay parallel arrays: C lends them so, and the index has no memory of its own.
 #[derive(Clone, Copy)]
 pub struct Lent<'a> {
     pub codes: &'a [u8],
@@ -69,7 +69,7 @@ pub struct Added {
 }
 
 // What a version of the byte form has: whether it is read, how many bytes a scale takes, and whether there is a width byte, a second stage, a key table,
-// a working_dim field that counts.
+// a working_dim field that counts. `known` is a flag, since the other fields have their values at an unknown version too, and tests before refusal 16 read them.
 #[derive(Clone, Copy)]
 pub struct Form {
     pub known: bool,

@@ -35,7 +35,7 @@ fn main(rt: HostRuntime) {
     run(&mut Lines::new(&mut reader, &mut buf), &mut out);
 }
 
-// Answers line after line.
+// Answers line after line. `encodings` has the same loop, and says why.
 fn run<R: Read>(lines: &mut Lines<'_, R>, out: &mut [u8]) {
     for _ in 0..u64::MAX {
         let Some(found) = lines.next_line() else {

@@ -26,7 +26,7 @@ struct Limit {
     ties: usize,
 }
 
-// Counts how many slots have each distance, from counts of 0 on.
+// Counts how many slots have each distance, from counts of 0 on. A function of its own beside radix's: see there.
 fn tally(distances: &[u32], counts: &mut [u32])
     requires few { length distances.now ≤ 65536 }
     requires low { Each (λ d. d < length counts.old) distances.now }

@@ -42,6 +42,7 @@ impl HeldKeys<'_> {
 
     // The place where the walk of a key's position ends. It has at most 64 steps: of the pairs that share a root no two have the same key, since their positions are
     // below `roots`, and each step takes one bit of the key.
+    // A while: nothing that could be counted or iterated over says where the walk ends.
     fn find(&self, tree: &[u32], roots: usize, key: u64, position: u32) -> usize
         requires { Tree self.now.keys.now self.now.held.now roots tree.now }
         ensures { Ends self.now.keys.now self.now.held.now roots tree.now key position result }
@@ -76,7 +77,7 @@ impl HeldKeys<'_> {
         true
     }
 
-    // Enters all slots, up to one that fails.
+    // Enters all slots, up to one that fails. By a for: each slot changes the tree, which the test of `all` could not be lent.
     fn enter_all(&self, tree: &mut [u32], roots: usize) -> bool
         requires room { roots + 2 * self.now.n ≤ length tree.old }
         requires grown { Grown (keys_of self.now) roots 0 tree.old }

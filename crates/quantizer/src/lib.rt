@@ -8,7 +8,7 @@ ghost use Rattle.lloyd.specs.Tables.{boundaries_of};
 ghost use Rattle.lloyd.specs.Quantizer.{quantized, centroid_at, quantizable, coded_into, coded_squares, sum_at};
 ghost use Rattle.lloyd.specs.Sound.{Rises};
 
-// The code of x over n boundaries that rise: at least `code` and at most `code + left`, and each turn halves `left`. At 15, 31 and 63 the comparisons
+// The code of x over n boundaries that rise: at least `code` and at most `code + left`, and each turn halves `left`, hence a while. At 15, 31 and 63 the comparisons
 // are those of the Rust's search.
 fn halving(boundaries: &[f32], x: f32, n: usize) -> usize
     requires rises { Rises boundaries.now }

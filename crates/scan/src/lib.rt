@@ -490,7 +490,7 @@ impl<'a> Stage<'a> {
 }
 
 // The scores of a stage of the marked slots below n, each in its slot's place; for a second stage they are added to what stands there. Where there
-// are fewer places than slots, nothing is written.
+// are fewer places than slots, nothing is written. The parameters come one by one: its caller has each of them from elsewhere.
 pub fn stage_scores(
     bits: u8,
     centroids: &[f32],
