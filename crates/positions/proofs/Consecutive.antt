@@ -77,7 +77,7 @@ module _ (k : ℕ) (rs : List Row) where
 
   below_key : (h : ℕ) → count (below k h) rs ≤ count (of_key k) rs
   unfolding below
-  below_key h = count-implied (below k h) (of_key k) rs (λ r e. left (of_key k r) (ltb r.held h) e)
+  below_key h = count-implied (below k h) (of_key k) rs (λ r e. and_left (of_key k r) (ltb r.held h) e)
 
   below_none : count (below k 0) rs ≡ 0
   unfolding below

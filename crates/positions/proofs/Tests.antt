@@ -1,6 +1,6 @@
 -- Laws of tests: conjunctions, lists of tests that all hold, and tests that all entries of a list pass.
 use mathlib.Core.Path.{◌≡◌, refl, ap, ◌∙◌}
-use mathlib.Core.Bool.{Bool, true, false, ◌&&◌}
+use mathlib.Core.Bool.{Bool, true, ◌&&◌}
 use mathlib.Core.List.{List, [], ◌∷◌, Memᴰ}
 use Prim.Native.Nat.{ℕ, zero, suc}
 use lib.ListN.{get_or}

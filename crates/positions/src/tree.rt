@@ -105,7 +105,7 @@ impl HeldKeys<'_> {
         tree[place] != 0
     }
 
-    // Whether that is so of every slot.
+    // Whether that is so of every slot. By a for: of `all` the proof would have to say first what the list of slots is, and what the test says of each.
     fn are_preceded(&self, tree: &[u32], roots: usize) -> bool
         requires grown { Grown (keys_of self.now) roots self.now.n tree.now }
         ensures { Decides result ((j : ℕ) → j < self.now.n → Preceded (keys_of self.now) self.now.n j) }
