@@ -71,6 +71,7 @@ impl Limit {
         distance < self.distance || distance == self.distance && seen < self.ties
     }
 
+    // Marks the slots that are within the limit. By index: a write through iter_mut says nothing of the marks after the last.
     fn mark(self, distances: &[u32], marks: &mut [u8])
         requires { length distances.now ≤ length marks.old }
         ensures { marks.new ≡ over (tab (λ i. bit (is_marked distances.now self.distance self.ties i)) (length distances.now)) marks.old }
