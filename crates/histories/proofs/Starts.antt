@@ -13,7 +13,7 @@ use Rattle.lists.proofs.Laws.{length-tab, zip-tab, tab-ext}
 use Rattle.lists.proofs.Front.{map-tab, each-tab}
 use Rattle.encode.specs.declared.Header.{Header}
 use Rattle.index.specs.declared.Index.{Index}
-use Rattle.index.specs.Verdict.{Verdict, granted, turned_down}
+use Rattle.index.specs.Verdict.{granted}
 use Rattle.index.specs.Arrays.{Arrays}
 use Rattle.index.specs.State.{Mark, dead, unkeyed, keyed, Slot, is_live, live, State, header_of, capacity, slot_at, state_of, record_of, overlay, seconds, with_mark}
 use Rattle.index.specs.Fit.{between, fit}

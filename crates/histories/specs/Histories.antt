@@ -22,7 +22,7 @@ use Rattle.score.specs.Order.{order_number}
 use Rattle.encode.specs.declared.Header.{Header}
 use Rattle.encode.specs.Coded.{Code, no_spare, spare_of}
 use Rattle.index.specs.declared.Index.{Index}
-use Rattle.index.specs.Verdict.{Verdict, granted, turned_down}
+use Rattle.index.specs.Verdict.{Verdict, granted}
 use Rattle.index.specs.Arrays.{Arrays}
 use Rattle.index.specs.State.{Slot, live, header_of, state_of}
 use Rattle.index.specs.Codec.{encoded, score_of}

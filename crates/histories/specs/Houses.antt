@@ -2,7 +2,7 @@
 -- whatever they held, and goes on from there.
 use Rattle.std.specs.Prelude.{◌≡◌, List, [], ◌∷◌, map, ℕ, ◌≤◌}
 use Rattle.index.specs.declared.Index.{Index}
-use Rattle.index.specs.Verdict.{Verdict, granted, turned_down}
+use Rattle.index.specs.Verdict.{granted}
 use Rattle.index.specs.Arrays.{Arrays}
 use Rattle.index.specs.State.{capacity}
 use Rattle.index.specs.Step.{Op, Answer}

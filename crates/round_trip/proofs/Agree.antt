@@ -3,7 +3,7 @@ use mathlib.Core.Path.{◌≡◌, sym, ◌∙◌}
 use mathlib.Core.List.{List}
 use Prim.Native.Nat.{ℕ}
 use Rattle.index.specs.declared.Index.{Index}
-use Rattle.index.specs.Verdict.{Verdict, granted, turned_down}
+use Rattle.index.specs.Verdict.{granted}
 use Rattle.index.specs.Arrays.{Arrays}
 use Rattle.index.specs.State.{state_of}
 use Rattle.index.specs.Read.{read_into}

@@ -11,7 +11,7 @@ use Rattle.lists.specs.Keep.{bit, count, Each}
 use Rattle.lists.proofs.Keep.{each_weaken, each_both, count-length}
 use Rattle.lists.proofs.Front.{each_map, each-tab}
 use Rattle.index.specs.declared.Index.{Index}
-use Rattle.index.specs.Verdict.{Verdict, granted, turned_down}
+use Rattle.index.specs.Verdict.{granted}
 use Rattle.index.specs.Arrays.{Arrays}
 use Rattle.index.specs.State.{Slot, State, live, header_of, rooms, least, capacity, mark_of, stage_at, slot_at, state_of, record_of}
 use Rattle.index.specs.Fit.{fit}

@@ -7,7 +7,7 @@ use Rattle.codes.specs.Stage.{Stage}
 use Rattle.encode.specs.declared.Header.{Header}
 use Rattle.encode.specs.Coded.{Code}
 use Rattle.index.specs.declared.Index.{Index}
-use Rattle.index.specs.Verdict.{Verdict, granted, turned_down}
+use Rattle.index.specs.Verdict.{granted}
 use Rattle.index.specs.Arrays.{Arrays}
 use Rattle.index.specs.State.{Mark, dead, unkeyed, keyed, Slot, State, header_of, capacity, state_of, record_of, new_slot}
 use Rattle.index.specs.File.{Entry}
