@@ -11,10 +11,10 @@ use Rattle.hits.proofs.write_scores.Goals as goal
 
 pub loop-i-preserved : goal.loop-i-preserved
 loop-i-preserved c =
-    let in-range : get_or c.args.slots.now c.loop-i.i 0 < length c.args.all.now = let s = c in
-    each_at (λ i. i < length s.args.all.now) s.args.slots.now c.loop-i.i 0 s.requires.slots_within c.loop-i-test.true in
     let a = c.args in
     let at = c.loop-i in
+    let in-range : get_or a.slots.now at.i 0 < length a.all.now =
+    each_at (λ i. i < length a.all.now) a.slots.now at.i 0 c.requires.slots_within c.loop-i-test.true in
     let read : ℕ → Float = λ s. get_or a.all.now s +0 in
     let slots = a.slots.now in (
       omega arith,
