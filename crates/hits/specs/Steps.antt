@@ -9,7 +9,7 @@ use Rattle.encode.specs.declared.Header.{Header}
 use Rattle.score.specs.Score.{slot_score}
 use Rattle.score.specs.Order.{order_number}
 use Rattle.choose_slots.specs.Slots.{listed_within}
-use Rattle.hits.specs.declared.Unlisted.TheVariants.{Nan, Unable}
+use Rattle.hits.specs.declared.Unlisted.TheVariants.{Unable}
 use Rattle.index.specs.declared.Index.{Index}
 use Rattle.index.specs.Arrays.{Arrays}
 use Rattle.index.specs.State.{header_of, stage_at}

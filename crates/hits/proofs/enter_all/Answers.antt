@@ -1,6 +1,5 @@
-use mathlib.Core.Path.{◌≡◌, sym, ◌∙◌}
+use mathlib.Core.Path.{sym, ◌∙◌}
 use native.Mathlib.Omega.{arith}
-use lib.ListN.{length}
 use Rattle.lloyd.specs.Tables.{centroids_of}
 use Rattle.lloyd.proofs.Places.{lent, lent_fits}
 use Rattle.lloyd.proofs.Widths.{centroids-length}

@@ -1,5 +1,5 @@
 use mathlib.Core.Path.{◌≡◌}
-use Prim.Native.Nat.{◌-◌, ◌≤◌}
+use Prim.Native.Nat.{◌≤◌}
 use lib.ListN.{length, get_or}
 use lib.Ieee.{nan}
 use Rattle.hits.proofs.Entering.{Begun}
