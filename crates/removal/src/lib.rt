@@ -9,7 +9,6 @@ ghost use Rattle.index.specs.Call.{call};
 ghost use Rattle.index.specs.Answers.{changed};
 ghost use Rattle.slot_keys.specs.Has.{slot_has};
 ghost use Rattle.held.specs.Held.{held_count, held_slot};
-ghost use Rattle.remarking.specs.Live.{with_live};
 ghost use Rattle.removal.specs.Dead.{lent_marks, dead_at, dead_where, placed_at};
 
 use index::{Index, Lent};
@@ -62,16 +61,6 @@ fn remove_slots(
     }
 }
 
-// The record with fewer live slots.
-fn fewer(index: Index, removed: usize) -> Index
-    requires { removed ≤ index.live }
-    ensures { result ≡ with_live index (index.live - removed) }
-{
-    let mut next = index;
-    next.live = index.live - removed;
-    next
-}
-
 // Yes, with the record, where the key has slots; then they are dead.
 // The arrays come one by one here and below, since some alone change: as one struct all would have to be lent to be changed, and C lends the others to be read.
 pub fn remove_keyed(
@@ -106,7 +95,10 @@ pub fn remove_keyed(
         return Ok(None);
     }
     remove_slots(keys, keyed, held, alive, index.n, key);
-    Ok(Some(fewer(index, many)))
+    Ok(Some(Index {
+        live: index.live - many,
+        ..index
+    }))
 }
 
 // ---- removal of one slot
@@ -169,7 +161,10 @@ pub fn remove_keyed_at(
     if in_use(keys, keyed, index.n, slot, key) {
         let last = last_slot(keys, keyed, held, index.n, key);
         remove_one(keyed, held, alive, slot, last);
-        return Ok(Some(fewer(index, 1)));
+        return Ok(Some(Index {
+            live: index.live - 1,
+            ..index
+        }));
     }
     Ok(None)
 }

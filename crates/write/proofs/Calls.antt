@@ -29,7 +29,7 @@ module _ (x : Index) (a : Arrays) where
   file = file_bytes (header_of x) (live_from 0 (state_of x a).slots)
 
   abbrev pieces : (version : ℕ) → List ℕ
-  pieces v = file_pieces v (header_of x) a.codes a.scales a.keys a.keyed a.alive a.codes2 a.scales2 x.n
+  pieces v = file_pieces v (header_of x) a x.n
 
   -- in the version of the index they are the file
   pieces_are : (v : ℕ) → ((es : List Entry) → v ≡ version_of (header_of x) es) → pieces v ≡ file

@@ -143,7 +143,7 @@ module _ (h : Header) (a : Arrays) where
   -- ---- the file
 
   pub file-pieces : (n : ℕ) → file_bytes h (live_from 0 (tab (slot_at h a) n))
-      ≡ file_pieces (version_of h (entries n)) h a.codes a.scales a.keys a.keyed a.alive a.codes2 a.scales2 n
+      ≡ file_pieces (version_of h (entries n)) h a n
   unfolding file_of file_pieces counts_of
   file-pieces n =
       ap (file_of h) (entries-are h a n)
@@ -168,9 +168,9 @@ module _ (keys : List ℕ) (keyed : List Bool) (alive : List ℕ) (i number : �
 
 -- ---- the blocks of a file, one after the other
 
-module _ (v : ℕ) (h : Header) (codes scales keys : List ℕ) (keyed : List Bool) (alive codes2 scales2 : List ℕ) (n : ℕ) where
-  pub pieces-length : length (file_pieces v h codes scales keys keyed alive codes2 scales2 n)
-      ≡ 24 + length (width_byte v h) + length (stage_pieces codes scales alive (block_size h) n)
-      + length (second_pieces h.residual codes2 scales2 alive (block_size h) n) + 4 + length (in_order (key_piece keys keyed alive) n)
+module _ (v : ℕ) (h : Header) (a : Arrays) (n : ℕ) where
+  pub pieces-length : length (file_pieces v h a n)
+      ≡ 24 + length (width_byte v h) + length (stage_pieces a.codes a.scales a.alive (block_size h) n)
+      + length (second_pieces h.residual a.codes2 a.scales2 a.alive (block_size h) n) + 4 + length (in_order (key_piece a.keys a.keyed a.alive) n)
   unfolding file_pieces
   pieces-length = simp length-append (omega arith)

@@ -7,6 +7,7 @@ use Rattle.half.specs.Half.{narrowed}
 use Rattle.codes.specs.Slots.{block_at}
 use Rattle.encode.specs.declared.Header.{Header}
 use Rattle.encode.specs.Header.{block_size}
+use Rattle.index.specs.Arrays.{Arrays}
 use Rattle.index.specs.File.{le_bytes, width_byte, head_bytes}
 use Rattle.marks.specs.Live.{live_at}
 use Rattle.layout.specs.Counts.{entry_at, counts_of}
@@ -36,8 +37,8 @@ unfoldable pub second_pieces : (residual : Bool) → (codes2 scales2 alive : Lis
 second_pieces residual codes2 scales2 alive block n = cond residual (stage_pieces codes2 scales2 alive block n) []
 
 -- the whole file, in the version that the index is written as
-unfoldable pub file_pieces : (version : ℕ) → Header → (codes scales keys : List ℕ) → (keyed : List Bool) → (alive codes2 scales2 : List ℕ) → (n : ℕ) → List ℕ
-file_pieces v h codes scales keys keyed alive codes2 scales2 n =
-    head_bytes v h (counts_of keyed alive n).live ++ width_byte v h
-    ++ stage_pieces codes scales alive (block_size h) n ++ second_pieces h.residual codes2 scales2 alive (block_size h) n
-    ++ le_bytes 4 (counts_of keyed alive n).keyed ++ in_order (key_piece keys keyed alive) n
+unfoldable pub file_pieces : (version : ℕ) → Header → Arrays → (n : ℕ) → List ℕ
+file_pieces v h a n =
+    head_bytes v h (counts_of a.keyed a.alive n).live ++ width_byte v h
+    ++ stage_pieces a.codes a.scales a.alive (block_size h) n ++ second_pieces h.residual a.codes2 a.scales2 a.alive (block_size h) n
+    ++ le_bytes 4 (counts_of a.keyed a.alive n).keyed ++ in_order (key_piece a.keys a.keyed a.alive) n

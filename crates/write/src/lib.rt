@@ -115,22 +115,14 @@ impl Writer<'_> {
     }
 
     // The second stage, where the index is residual.
-    fn put_second(
-        &mut self,
-        residual: bool,
-        codes2: &[u8],
-        scales2: &[u32],
-        alive: &[u8],
-        block: usize,
-        n: usize,
-    )
-        requires { Room (second_pieces residual codes2.now scales2.now alive.now block n) self.old }
-        ensures { Put (second_pieces residual codes2.now scales2.now alive.now block n) self.old self.new }
+    fn put_second(&mut self, residual: bool, arrays: &Lent<'_>, block: usize, n: usize)
+        requires { let a = contents arrays.now in Room (second_pieces residual a.codes2 a.scales2 a.alive block n) self.old }
+        ensures { let a = contents arrays.now in Put (second_pieces residual a.codes2 a.scales2 a.alive block n) self.old self.new }
     {
         if !residual {
             return;
         }
-        self.put_stage(codes2, scales2, alive, block, n);
+        self.put_stage(arrays.codes2, arrays.scales2, arrays.alive, block, n);
     }
 
     // The key entries.
@@ -177,33 +169,19 @@ impl Writer<'_> {
     }
 
     // The whole file in this version, a block of codes being so many bytes.
-    fn put_file(
-        &mut self,
-        version: u16,
-        index: Index,
-        block: usize,
-        codes: &[u8],
-        scales: &[u32],
-        keys: &[u64],
-        keyed: &[bool],
-        alive: &[u8],
-        codes2: &[u8],
-        scales2: &[u32],
-    )
+    fn put_file(&mut self, version: u16, index: Index, block: usize, arrays: &Lent<'_>)
         requires block_is_size { block ≡ block_size (header_of index) }
-        requires pieces_fit { Room (file_pieces version (header_of index) codes.now scales.now keys.now
-            keyed.now alive.now codes2.now scales2.now index.n) self.old }
-        ensures { Put (file_pieces version (header_of index) codes.now scales.now keys.now keyed.now alive.now
-            codes2.now scales2.now index.n) self.old self.new }
+        requires pieces_fit { Room (file_pieces version (header_of index) (contents arrays.now) index.n) self.old }
+        ensures { Put (file_pieces version (header_of index) (contents arrays.now) index.n) self.old self.new }
     {
         let n = index.n;
-        let counts = layout::count_slots(keyed, alive, n);
+        let counts = layout::count_slots(arrays.keyed, arrays.alive, n);
         self.put_head(version, index, counts.live);
         self.put_width(version, index);
-        self.put_stage(codes, scales, alive, block, n);
-        self.put_second(index.residual, codes2, scales2, alive, block, n);
+        self.put_stage(arrays.codes, arrays.scales, arrays.alive, block, n);
+        self.put_second(index.residual, arrays, block, n);
         self.put_number(4, counts.keyed as u64);
-        self.put_entries(keys, keyed, alive, n);
+        self.put_entries(arrays.keys, arrays.keyed, arrays.alive, n);
     }
 }
 
@@ -222,13 +200,7 @@ pub fn to_bytes(index: Index, arrays: &Lent<'_>, file: &mut [u8]) -> Result<usiz
         form::version_of(index),
         index,
         room::block_size(index),
-        arrays.codes,
-        arrays.scales,
-        arrays.keys,
-        arrays.keyed,
-        arrays.alive,
-        arrays.codes2,
-        arrays.scales2,
+        arrays,
     );
     Ok(length)
 }

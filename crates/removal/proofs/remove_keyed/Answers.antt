@@ -4,6 +4,7 @@ use Prim.Native.Nat.{◌<◌}
 use native.Mathlib.Omega.{arith}
 use Rattle.index.specs.Arrays.{lent}
 use Rattle.index.proofs.Calls.{call-misfit}
+use Rattle.remarking.specs.Live.{with_live}
 use Rattle.remarking.proofs.Marked.{room}
 use Rattle.removal.proofs.Accepted.{many, remove-no, remove-few, remove-yes}
 use Rattle.removal.proofs.remove_keyed.Goals as goal
@@ -21,22 +22,23 @@ remove_slots-requires c =
     let r = room c.args.index a e in
     (r.keyed, r.held, r.alive)
 
-pub fewer-requires : goal.fewer-requires
-fewer-requires c =
+pub overflow_sub-result : goal.overflow_sub-result
+overflow_sub-result c =
     let a = lent c.args.codes.now c.args.scales.now c.args.keys.now c.args.keyed.now c.args.held.now c.args.alive.now c.args.codes2.now c.args.scales2.now in
     let e = c.in_ok-check.ensures in
     let n = c.held_count-many.ensures in
     let some : 0 < many c.args.index a e c.args.key = omega (arith, n, c.if-many-eq0.false) in
-    rw n (remove-few c.args.index a e c.args.key some)
+    omega (arith, n, remove-few c.args.index a e c.args.key some)
 
 pub returns : goal.returns
+unfolding with_live
 returns c =
     let a = lent c.args.codes.now c.args.scales.now c.args.keys.now c.args.keyed.now c.args.held.now c.args.alive.now c.args.codes2.now c.args.scales2.now in
     let e = c.in_ok-check.ensures in
     let n = c.held_count-many.ensures in
     let some : 0 < many c.args.index a e c.args.key = omega (arith, n, c.if-many-eq0.false) in
     let w = c.remove_slots.ensures in
-    rw (c.fewer.ensures, n) (sym (remove-yes c.args.index a e c.args.key some _ w))
+    rw n (sym (remove-yes c.args.index a e c.args.key some _ w))
 
 pub returns-in_err-check : goal.returns-in_err-check
 returns-in_err-check c =

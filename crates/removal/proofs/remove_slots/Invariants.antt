@@ -1,5 +1,5 @@
 use mathlib.Core.Path.{◌≡◌}
-use Prim.Native.Nat.{◌-◌, ◌≤◌}
+use Prim.Native.Nat.{◌≤◌}
 use Rattle.slot_keys.specs.Has.{slot_has}
 use Rattle.removal.specs.Dead.{SlotMarks, dead_where}
 use Rattle.removal.proofs.Loops.{SameReach}
