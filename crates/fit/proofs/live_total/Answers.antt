@@ -7,11 +7,10 @@ use Rattle.fit.proofs.live_total.Goals as goal
 
 pub loop-i-preserved : goal.loop-i-preserved
 loop-i-preserved c =
-    let low : get_or c.args.alive.now c.loop-i.i 0 ≤ 1 = c.requires.by_index c.loop-i.i c.loop-i-test.true in
-    let s = c in
     let last = c.loop-i in
+    let low : get_or c.args.alive.now last.i 0 ≤ 1 = c.requires.by_index last.i c.loop-i-test.true in
     let e = c.live_mark.ensures in (
       omega (arith, c.loop-i-test.true),
       omega (arith, last.invariant.1, e, low),
-      rw (add-one last.i, live_more s.args.alive.now last.i (low), e, last.invariant.2),
+      rw (add-one last.i, live_more c.args.alive.now last.i low, e, last.invariant.2),
     )

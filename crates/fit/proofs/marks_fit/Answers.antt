@@ -9,7 +9,7 @@ use Rattle.fit.proofs.marks_fit.Goals as goal
 
 pub returns-then-each_fits : goal.returns-then-each_fits
 returns-then-each_fits c =
-    let each : let s = c in Decides c.each_fits.result (EachMarked s.args.keyed.now s.args.alive.now s.args.n) = let s = c in front-each _ _ s.args.n s.requires.1 (rw (sub-zero s.args.n) at c.each_fits.ensures) in
-    let s = c in
-    let e = rw (sub-zero s.args.n) at c.live_total.ensures ∙ front-live s.args.keyed.now s.args.alive.now s.args.n s.requires.2 in
-    decided _ (λ t. record { slot = (each).yes c.if-each_fits.true; count = sym (eqb-true _ _ t) ∙ e }) (λ f. eq-eqb _ _ (e ∙ sym f.count))
+    let a = c.args in
+    let each : Decides c.each_fits.result (EachMarked a.keyed.now a.alive.now a.n) = front-each _ _ a.n c.requires.1 (rw (sub-zero a.n) at c.each_fits.ensures) in
+    let e = rw (sub-zero a.n) at c.live_total.ensures ∙ front-live a.keyed.now a.alive.now a.n c.requires.2 in
+    decided _ (λ t. record { slot = each.yes c.if-each_fits.true; count = sym (eqb-true _ _ t) ∙ e }) (λ f. eq-eqb _ _ (e ∙ sym f.count))

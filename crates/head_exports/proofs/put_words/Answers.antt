@@ -38,8 +38,5 @@ bounds-answer-6 c = simp length-set (omega arith)
 pub returns : goal.returns
 unfolding head_words over
 returns c =
-    let head = c.head_in-head in
-    let start = c in
-    let file = start.args.file.now in
-    rw (head.ensures, as-bit (header_in file).residual)
-    (sets-eq (head_words file) start.args.answer.now 0 start.requires)
+    let file = c.args.file.now in
+    rw (c.head_in-head.ensures, as-bit (header_in file).residual) (sets-eq (head_words file) c.args.answer.now 0 c.requires)

@@ -20,8 +20,7 @@ slice_bounds-enter_slots-end-2 c =
 pub returns : goal.returns
 returns c =
     let q = c.args.query.now in
-    let entered = c.enter_slots in
     entered-prepared (header_of c.args.index) c.args.arrays.now.codes.now c.args.arrays.now.scales.now c.args.arrays.now.codes2.now c.args.arrays.now.scales2.now (query_of q) _ _
     (lent (centroids_of _) _ _ c.centroids-centroids.ensures (c.levels-levels.ensures ∙ sym (centroids-length _)))
     (query-lent _ _ q _ _ _ c.requires.can_rotate c.prepare.ensures _ c.padded_dim-padded.ensures)
-    _ _ _ _ _ _ _ entered.ensures
+    _ _ _ _ _ _ _ c.enter_slots.ensures

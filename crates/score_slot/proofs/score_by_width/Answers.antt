@@ -1,6 +1,5 @@
-use mathlib.Core.Path.{◌≡◌, sym, ◌∙◌}
+use mathlib.Core.Path.{sym, ◌∙◌}
 use native.Mathlib.Omega.{arith}
-use lib.ListN.{length}
 use Rattle.lloyd.specs.Tables.{centroids_of}
 use Rattle.lloyd.proofs.Places.{lent, lent_fits}
 use Rattle.lloyd.proofs.Widths.{centroids-length}
@@ -19,10 +18,7 @@ slice_bounds-score_prepared-end-2 c =
 
 pub returns : goal.returns
 returns c =
-    let padded = c.padded_dim-padded.ensures in
-    let centroids = c.centroids-centroids.ensures in
-    let levels = c.levels-n.ensures in
     let q = c.args.query.now in
     c.score_prepared.ensures ∙
-    score-lent (header_of c.args.index) (query_of q) _ _ _ _ (lent (centroids_of _) _ _ centroids (levels ∙ sym (centroids-length _)))
-    (query-lent _ _ q _ _ _ c.requires.can_rotate c.prepare.ensures _ padded)
+    score-lent (header_of c.args.index) (query_of q) _ _ _ _ (lent (centroids_of _) _ _ c.centroids-centroids.ensures (c.levels-n.ensures ∙ sym (centroids-length _)))
+    (query-lent _ _ q _ _ _ c.requires.can_rotate c.prepare.ensures _ c.padded_dim-padded.ensures)

@@ -1,4 +1,4 @@
-use Rattle.std.proofs.Common.{arith, refl, sym, ◌∙◌}
+use Rattle.std.proofs.Common.{arith, refl, sym}
 use Rattle.std.proofs.Common.{rules, ◌≡◌, Err}
 use Rattle.refusal.proofs.Numbers.{above_0}
 use Rattle.index.specs.State.{slot_at}
