@@ -1,10 +1,10 @@
 -- What lent slices hold after a call is what its answer, read by arrival, says of them.
 use mathlib.Core.Path.{◌≡◌, refl, sym, ap, ap₂, ◌∙◌}
+use mathlib.Core.Bool.{true, true≢false}
 use mathlib.Core.List.{List, [], ◌∷◌, map}
 use mathlib.Core.Option
 use mathlib.Core.Option.{Option, none, some, some-injective, none-ne-some, map-eq-some_iff}
 use Prim.Native.Nat.{ℕ}
-use native.Mathlib.Omega.{arith}
 use lib.ListN.{length, drop, get_or}
 use lib.Ieee.{Float}
 use Rattle.pattern.specs.Binary32.{+0}
@@ -15,7 +15,8 @@ use Rattle.lists.proofs.Front.{map-tab}
 use Rattle.index.specs.Verdict.{Verdict, granted, turned_down}
 use Rattle.index.specs.Step.{Answer, refused, hits, key_hits, bytes}
 use Rattle.index.specs.Answers.{how_many, first_entries, first_pairs, found, found_keyed, wrote, LaterKept}
-use Rattle.histories.specs.Histories.{hit_and, hits_read, read, called, Moment, arrival_then, answer, LeaveAlike}
+use Rattle.histories.specs.Histories.{hit_and, hits_read, read, accepted, called, Moment, arrival_then, answer, LeaveAlike}
+use Rattle.histories.proofs.Reading.{read-accepted}
 
 -- ---- what was read
 
@@ -52,10 +53,17 @@ module _ (m : ℕ) (ns : List ℕ) (ss : List Float) where
   scores-first : map (λ x. x.1) (first_pairs m ns ss) ≡ scores_first m ss
   scores-first = map-tab (λ (x : ℕ × Float). x.1) (λ i. (get_or ns i 0, get_or ss i +0)) m
 
-apart : (list : List (ℕ × Float)) (n : ℕ) → hits list ≡ refused n → ⊥
-apart list n e = let z : ◌≡◌ {A = ℕ} 0 1 = cc in omega arith
-
 module _ (f g : ℕ → Option ℕ) (b : Answer) where
+  -- what is read is accepted just where the answer is, so an accepted answer and a refusal are never read alike
+  apart : (h i : ℕ → Option ℕ) (a : Answer) (n : ℕ) → accepted a ≡ true → read h a ≡ some b → read i (refused n) ≡ some b → ⊥
+  apart h i a n ok d e =
+      let z : accepted b ≡ accepted a = rw (d) at (read-accepted h a) in
+      true≢false (sym ok ∙ sym z ∙ ap accepted (sym (some-injective (refused n) b e)))
+
+  same-refusal : (m n : ℕ) → read f (refused m) ≡ some b → read g (refused n) ≡ some b → m ≡ n
+  same-refusal m n d e =
+      let z : refused m ≡ refused n = some-injective (refused m) b d ∙ sym (some-injective (refused n) b e) in cc
+
   -- the list that hits are read as
   read-hits : (h : ℕ → Option ℕ) (xs : List (ℕ × Float)) → read h (hits xs) ≡ some b → (list : List (ℕ × Float)) × HitsRead h xs list × (hits list ≡ b)
   read-hits h xs e = let p = (map-eq-some_iff hits (hits_read h xs)).0 e in (p.0, hits-are h xs p.0 p.1, p.2)
@@ -74,13 +82,9 @@ module _ (f g : ℕ → Option ℕ) (b : Answer) where
         ap (map f) (sym (numbers-first m ns ss)) ∙ slots ∙ ap (map g) (numbers-first n ms ts),
         first,
       )
-  found_alike (granted m) (turned_down n) ns ms ss ts d e =
-      let p = read-hits f (first_pairs m ns ss) d in absurd (apart p.0 n (p.2 ∙ sym (some-injective (refused n) b e)))
-  found_alike (turned_down m) (granted n) ns ms ss ts d e =
-      let p = read-hits g (first_pairs n ms ts) e in absurd (apart p.0 m (p.2 ∙ sym (some-injective (refused m) b d)))
-  found_alike (turned_down m) (turned_down n) ns ms ss ts d e =
-      let z : refused m ≡ refused n = some-injective (refused m) b d ∙ sym (some-injective (refused n) b e) in
-      let same : m ≡ n = cc in (ap turned_down same, refl, refl)
+  found_alike (granted m) (turned_down n) ns ms ss ts d e = absurd (apart f g (hits (first_pairs m ns ss)) n refl d e)
+  found_alike (turned_down m) (granted n) ns ms ss ts d e = absurd (apart g f (hits (first_pairs n ms ts)) m refl e d)
+  found_alike (turned_down m) (turned_down n) ns ms ss ts d e = (ap turned_down (same-refusal m n d e), refl, refl)
 
   keyed-alike : (r s : Verdict ℕ) (ns ms : List ℕ) (ss ts : List Float) → read f (found_keyed r ns ss) ≡ some b → read g (found_keyed s ms ts) ≡ some b →
       (r ≡ s) × (first_entries (how_many r) ns ≡ first_entries (how_many s) ms) × (scores_first (how_many r) ss ≡ scores_first (how_many s) ts)
@@ -92,15 +96,9 @@ module _ (f g : ℕ → Option ℕ) (b : Answer) where
         sym (numbers-first m ns ss) ∙ ap (map (λ (x : ℕ × Float). x.0)) same ∙ numbers-first n ms ts,
         sym (scores-first m ns ss) ∙ ap (map (λ (x : ℕ × Float). x.1)) same ∙ scores-first n ms ts,
       )
-  keyed-alike (granted m) (turned_down n) ns ms ss ts d e =
-      let z : key_hits (first_pairs m ns ss) ≡ refused n = some-injective _ b d ∙ sym (some-injective _ b e) in
-      absurd (let y : ◌≡◌ {A = ℕ} 0 1 = cc in omega arith)
-  keyed-alike (turned_down m) (granted n) ns ms ss ts d e =
-      let z : refused m ≡ key_hits (first_pairs n ms ts) = some-injective _ b d ∙ sym (some-injective _ b e) in
-      absurd (let y : ◌≡◌ {A = ℕ} 0 1 = cc in omega arith)
-  keyed-alike (turned_down m) (turned_down n) ns ms ss ts d e =
-      let z : refused m ≡ refused n = some-injective _ b d ∙ sym (some-injective _ b e) in
-      let same : m ≡ n = cc in (ap turned_down same, refl, refl)
+  keyed-alike (granted m) (turned_down n) ns ms ss ts d e = absurd (apart f g (key_hits (first_pairs m ns ss)) n refl d e)
+  keyed-alike (turned_down m) (granted n) ns ms ss ts d e = absurd (apart g f (key_hits (first_pairs n ms ts)) m refl e d)
+  keyed-alike (turned_down m) (turned_down n) ns ms ss ts d e = (ap turned_down (same-refusal m n d e), refl, refl)
 
   written-alike : (r s : Verdict ℕ) (bs cs : List ℕ) → read f (wrote r bs) ≡ some b → read g (wrote s cs) ≡ some b →
       (r ≡ s) × (first_entries (how_many r) bs ≡ first_entries (how_many s) cs)
@@ -108,15 +106,9 @@ module _ (f g : ℕ → Option ℕ) (b : Answer) where
       let z : bytes (first_entries m bs) ≡ bytes (first_entries n cs) = some-injective _ b d ∙ sym (some-injective _ b e) in
       let same : first_entries m bs ≡ first_entries n cs = cc in
       let count : m ≡ n = sym (length-tab (λ i. get_or bs i 0) m) ∙ ap length same ∙ length-tab (λ i. get_or cs i 0) n in (ap granted count, same)
-  written-alike (granted m) (turned_down n) bs cs d e =
-      let z : bytes (first_entries m bs) ≡ refused n = some-injective _ b d ∙ sym (some-injective _ b e) in
-      absurd (let y : ◌≡◌ {A = ℕ} 0 1 = cc in omega arith)
-  written-alike (turned_down m) (granted n) bs cs d e =
-      let z : refused m ≡ bytes (first_entries n cs) = some-injective _ b d ∙ sym (some-injective _ b e) in
-      absurd (let y : ◌≡◌ {A = ℕ} 0 1 = cc in omega arith)
-  written-alike (turned_down m) (turned_down n) bs cs d e =
-      let z : refused m ≡ refused n = some-injective _ b d ∙ sym (some-injective _ b e) in
-      let same : m ≡ n = cc in (ap turned_down same, refl)
+  written-alike (granted m) (turned_down n) bs cs d e = absurd (apart f g (bytes (first_entries m bs)) n refl d e)
+  written-alike (turned_down m) (granted n) bs cs d e = absurd (apart g f (bytes (first_entries n cs)) m refl e d)
+  written-alike (turned_down m) (turned_down n) bs cs d e = (ap turned_down (same-refusal m n d e), refl)
 
 -- a slice that held `old` before both calls
 module _ {A : Type 0} (old xs ys : List A) (m n : ℕ) (e : m ≡ n) (p : LaterKept m old xs) (q : LaterKept n old ys) where
