@@ -16,8 +16,8 @@
 ghost use Rattle.std.specs.Prelude.{◌≤◌};
 
 use index::{Added, Index, Lent, LentMut};
-use refusal::Refusal;
 use lines::{Lines, Span, TooLong};
+use refusal::Refusal;
 use runs::InHex;
 use score::Scored;
 use std::io::Read;
@@ -131,12 +131,7 @@ fn answer_with_fresh<R: Read>(
         codes2: &mut codes2[..g],
         scales2: &mut scales2[..h],
     };
-    answer_lines(
-        lines,
-        out,
-        &mut arrays,
-        state,
-    )
+    answer_lines(lines, out, &mut arrays, state)
 }
 
 // Answers lines up to the one that lends arrays anew.
@@ -149,9 +144,7 @@ fn answer_lines<R: Read>(
     let mut state = first;
     for _ in 0..u64::MAX {
         let found = lines.next_line()?;
-        let next = turn(
-            lines, found, out, arrays, state,
-        );
+        let next = turn(lines, found, out, arrays, state);
         state = next;
         if state.fresh {
             return Some(state);
@@ -183,16 +176,8 @@ fn turn<R: Read>(
     let n = call.count.min(17500);
     let m = call.count.min(65536);
     let query = &vector[..n];
-    let done = change(
-        call,
-        query,
-        &file[..m],
-        arrays,
-        index,
-    );
-    let replied = answer(
-        call, done, query, out, &arrays.view(), index,
-    );
+    let done = change(call, query, &file[..m], arrays, index);
+    let replied = answer(call, done, query, out, &arrays.view(), index);
     print::print_line(out, replied.length);
     State {
         index: replied.index,
@@ -584,58 +569,60 @@ enum Done {
 }
 
 // The calls that change the arrays; no other line does. They all start here, since to prove that arrays are passed on to be changed takes longest.
-fn change(
-    call: Call,
-    vector: &[f32],
-    file: &[u8],
-    arrays: &mut LentMut<'_>,
-    index: Index,
-) -> Done {
+fn change(call: Call, vector: &[f32], file: &[u8], arrays: &mut LentMut<'_>, index: Index) -> Done {
     match call.command {
-        Command::Set(array) => Done::Element(set_element(
-            arrays,
-            array,
-            call.a as usize,
-            call.b,
-        )),
-        Command::Compact => Done::Record(compact::compact(
-            index, arrays,
-        )),
+        Command::Set(array) => Done::Element(set_element(arrays, array, call.a as usize, call.b)),
+        Command::Compact => Done::Record(compact::compact(index, arrays)),
         Command::Relabel | Command::Remove | Command::RemoveAt => Done::Marks(change_marks(
-            call, arrays, index,
+            call,
+            arrays.codes,
+            arrays.scales,
+            arrays.keys,
+            arrays.keyed,
+            arrays.held,
+            arrays.alive,
+            arrays.codes2,
+            arrays.scales2,
+            index,
         )),
-        Command::Add => Done::Slot(add::add(
-            index, arrays, vector,
-        )),
-        Command::AddKeyed => Done::Slot(add_keyed::add_keyed(
-            index, arrays, call.a, vector,
-        )),
-        Command::AddMulti => Done::Slot(add_multi::add_keyed_multi(
-            index, arrays, call.a, vector,
-        )),
-        Command::Read => Done::Record(read::from_bytes(
-            arrays, file,
-        )),
+        Command::Add => Done::Slot(add::add(index, arrays, vector)),
+        Command::AddKeyed => Done::Slot(add_keyed::add_keyed(index, arrays, call.a, vector)),
+        Command::AddMulti => Done::Slot(add_multi::add_keyed_multi(index, arrays, call.a, vector)),
+        Command::Read => Done::Record(read::from_bytes(arrays, file)),
         _ => Done::Nothing,
     }
 }
 
-// Relabelling and the removals, which leave codes and scales alone.
+// Relabelling and the removals, which leave codes and scales alone. The arrays come one by one, since these calls read some and change others.
 fn change_marks(
     call: Call,
-    arrays: &mut LentMut<'_>,
+    codes: &mut [u8],
+    scales: &mut [u32],
+    keys: &mut [u64],
+    keyed: &mut [bool],
+    held: &mut [u32],
+    alive: &mut [u8],
+    codes2: &mut [u8],
+    scales2: &mut [u32],
     index: Index,
 ) -> Result<Option<Index>, Refusal> {
     match call.command {
         Command::Relabel => relabel::relabel(
-            index, arrays.codes, arrays.scales, arrays.keys, arrays.keyed, arrays.held, arrays.alive, arrays.codes2, arrays.scales2, call.a, call.b,
+            index, codes, scales, keys, keyed, held, alive, codes2, scales2, call.a, call.b,
         ),
         Command::Remove => removal::remove_keyed(
-            index, arrays.codes, arrays.scales, arrays.keys, arrays.keyed, arrays.held, arrays.alive, arrays.codes2, arrays.scales2, call.a,
+            index, codes, scales, keys, keyed, held, alive, codes2, scales2, call.a,
         ),
         _ => removal::remove_keyed_at(
             index,
-            arrays.codes, arrays.scales, arrays.keys, arrays.keyed, arrays.held, arrays.alive, arrays.codes2, arrays.scales2,
+            codes,
+            scales,
+            keys,
+            keyed,
+            held,
+            alive,
+            codes2,
+            scales2,
             call.a,
             call.b as usize,
         ),
@@ -643,12 +630,7 @@ fn change_marks(
 }
 
 // Sets an element, where the array has it and its type holds the value.
-fn set_element(
-    arrays: &mut LentMut<'_>,
-    array: Array,
-    i: usize,
-    x: u64,
-) -> bool {
+fn set_element(arrays: &mut LentMut<'_>, array: Array, i: usize, x: u64) -> bool {
     match array {
         Array::Codes => poke(arrays.codes, i, x),
         Array::Scales => poke(arrays.scales, i, x),
@@ -721,132 +703,69 @@ fn answer(
 ) -> Replied {
     match call.command {
         Command::Dump => Replied {
-            index: index,
-            length: dump(
-                out, arrays, index,
-            ),
+            index,
+            length: dump(out, arrays, index),
         },
         Command::Search | Command::SearchCascade => Replied {
-            index: index,
-            length: list_slots(
-                call, vector, out, arrays, index,
-            ),
+            index,
+            length: list_slots(call, vector, out, arrays, index),
         },
         Command::SearchKeyed => Replied {
-            index: index,
-            length: list_keys(
-                call, vector, out, arrays, index,
-            ),
+            index,
+            length: list_keys(call, vector, out, arrays, index),
         },
         Command::Write => Replied {
-            index: index,
-            length: write_file(
-                call, out, arrays, index,
-            ),
+            index,
+            length: write_file(call, out, arrays, index),
         },
-        _ => put_outcome(
-            out,
-            ask(
-                call, done, vector, arrays, index,
-            ),
-        ),
+        _ => put_outcome(out, ask(call, done, vector, arrays, index)),
     }
 }
 
 // The calls that are answered in a word or two and only read the arrays. Any other line says what it did.
-fn ask(
-    call: Call,
-    done: Done,
-    vector: &[f32],
-    arrays: &Lent<'_>,
-    index: Index,
-) -> Outcome {
+fn ask(call: Call, done: Done, vector: &[f32], arrays: &Lent<'_>, index: Index) -> Outcome {
     match call.command {
         Command::New | Command::Working | Command::Residual | Command::Bits | Command::Enable =>
-            after_made(
-                make_or_set(
-                    call, arrays, index,
-                ),
-                index,
-            ),
+            after_made(make_or_set(call, arrays, index), index),
         Command::KeyOf => Outcome {
-            index: index,
-            reply: of_key(keys::key_of(index, arrays,
-                call.a as usize,
-            )),
+            index,
+            reply: of_key(keys::key_of(index, arrays, call.a as usize)),
         },
         Command::Contains => Outcome {
-            index: index,
-            reply: of_asked(keys::contains_key(
-                index, arrays, call.a,
-            )),
+            index,
+            reply: of_asked(keys::contains_key(index, arrays, call.a)),
         },
         Command::SlotAt => Outcome {
-            index: index,
-            reply: of_held(keys::slot_at(
-                index,
-                arrays,
-                call.a,
-                call.b as usize,
-            )),
+            index,
+            reply: of_held(keys::slot_at(index, arrays, call.a, call.b as usize)),
         },
         Command::Score => Outcome {
-            index: index,
-            reply: of_score(score_slot::score(
-                index,
-                arrays,
-                call.a as usize,
-                vector,
-            )),
+            index,
+            reply: of_score(score_slot::score(index, arrays, call.a as usize, vector)),
         },
         Command::Length => Outcome {
-            index: index,
-            reply: of_length(layout::file_length(
-                index, arrays,
-            )),
+            index,
+            reply: of_length(layout::file_length(index, arrays)),
         },
         _ => after(call, done, index),
     }
 }
 
 // The calls that make or set a record, and only read the arrays.
-fn make_or_set(
-    call: Call,
-    arrays: &Lent<'_>,
-    index: Index,
-) -> Result<Index, Refusal> {
+fn make_or_set(call: Call, arrays: &Lent<'_>, index: Index) -> Result<Index, Refusal> {
     if call.command == Command::New {
-        return make::new(
-            call.a as usize,
-            call.b,
-            arrays,
-        );
+        return make::new(call.a as usize, call.b, arrays);
     }
     if call.command == Command::Working {
-        return make::with_working_dim(
-            call.a as usize,
-            call.b as usize,
-            call.c,
-            arrays,
-        );
+        return make::with_working_dim(call.a as usize, call.b as usize, call.c, arrays);
     }
     if call.command == Command::Residual {
-        return make::with_residual(
-            call.a as usize,
-            call.b,
-            arrays,
-        );
+        return make::with_residual(call.a as usize, call.b, arrays);
     }
     if call.command == Command::Bits {
-        return settings::set_bits(
-            index,
-            arrays,
-            low_byte(call.a),
-        );
+        return settings::set_bits(index, arrays, low_byte(call.a));
     }
-    settings::enable_cascade(
-        index, arrays,
-    )
+    settings::enable_cascade(index, arrays)
 }
 
 fn low_byte(n: u64) -> u8 {
@@ -903,7 +822,12 @@ const SCORE_MARK: f32 = 1.0;
 const BYTE_MARK: u8 = 0xFF;
 
 // The slots as numbers of the size of keys.
-fn put_slots(out: &mut [u8], found: Result<usize, Refusal>, slots: &[u32], scores: &[f32]) -> usize {
+fn put_slots(
+    out: &mut [u8],
+    found: Result<usize, Refusal>,
+    slots: &[u32],
+    scores: &[f32],
+) -> usize {
     let mut numbers = [0u64; 4096];
     for (number, slot) in numbers.iter_mut().zip(slots) {
         *number = *slot as u64;
@@ -943,14 +867,7 @@ fn search_slots(
     scores: &mut [f32],
 ) -> usize {
     if call.command == Command::Search {
-        let found = search::search(
-            index,
-            arrays,
-            vector,
-            call.a as usize,
-            slots,
-            scores,
-        );
+        let found = search::search(index, arrays, vector, call.a as usize, slots, scores);
         return put_slots(out, found, slots, scores);
     }
     let found = search_cascade::search_cascade(
@@ -965,13 +882,7 @@ fn search_slots(
     put_slots(out, found, slots, scores)
 }
 
-fn list_keys(
-    call: Call,
-    vector: &[f32],
-    out: &mut [u8],
-    arrays: &Lent<'_>,
-    index: Index,
-) -> usize {
+fn list_keys(call: Call, vector: &[f32], out: &mut [u8], arrays: &Lent<'_>, index: Index) -> usize {
     let mut names = [KEY_MARK; 4096];
     let mut scores = [SCORE_MARK; 4096];
     let n = (call.b as usize).min(4096);
@@ -995,42 +906,18 @@ fn search_keys(
     names: &mut [u64],
     scores: &mut [f32],
 ) -> usize {
-    let found = search_keyed::search_keyed(
-        index,
-        arrays,
-        vector,
-        call.a as usize,
-        names,
-        scores,
-    );
+    let found = search_keyed::search_keyed(index, arrays, vector, call.a as usize, names, scores);
     put_found(out, found, names, KEY_MARK, scores)
 }
 
-fn write_file(
-    call: Call,
-    out: &mut [u8],
-    arrays: &Lent<'_>,
-    index: Index,
-) -> usize {
+fn write_file(call: Call, out: &mut [u8], arrays: &Lent<'_>, index: Index) -> usize {
     let mut file = [BYTE_MARK; 65536];
     let n = (call.a as usize).min(65536);
-    write_into(
-        out,
-        arrays,
-        index,
-        &mut file[..n],
-    )
+    write_into(out, arrays, index, &mut file[..n])
 }
 
-fn write_into(
-    out: &mut [u8],
-    arrays: &Lent<'_>,
-    index: Index,
-    file: &mut [u8],
-) -> usize {
-    let written = write::to_bytes(
-        index, arrays, file,
-    );
+fn write_into(out: &mut [u8], arrays: &Lent<'_>, index: Index, file: &mut [u8]) -> usize {
+    let written = write::to_bytes(index, arrays, file);
     put_file(out, written, file)
 }
 
@@ -1082,7 +969,7 @@ fn after(call: Call, done: Done, index: Index) -> Outcome {
 fn without_arrays(call: Call, index: Index) -> Outcome {
     match call.command {
         Command::Lend => Outcome {
-            index: index,
+            index,
             reply: Reply::Ok,
         },
         Command::Field(field) => Outcome {
@@ -1090,11 +977,11 @@ fn without_arrays(call: Call, index: Index) -> Outcome {
             reply: Reply::Ok,
         },
         Command::Silent => Outcome {
-            index: index,
+            index,
             reply: Reply::Silent,
         },
         _ => Outcome {
-            index: index,
+            index,
             reply: Reply::Unreadable,
         },
     }
@@ -1118,12 +1005,12 @@ fn with_field(index: Index, field: Field, x: u64) -> Index {
 fn after_set(done: bool, index: Index) -> Outcome {
     if !done {
         return Outcome {
-            index: index,
+            index,
             reply: Reply::Unreadable,
         };
     }
     Outcome {
-        index: index,
+        index,
         reply: Reply::Ok,
     }
 }
@@ -1135,7 +1022,7 @@ fn after_made(made: Result<Index, Refusal>, index: Index) -> Outcome {
             reply: Reply::Ok,
         },
         Err(refusal) => Outcome {
-            index: index,
+            index,
             reply: Reply::Refused(u8::from(refusal)),
         },
     }
@@ -1148,11 +1035,11 @@ fn after_changed(changed: Result<Option<Index>, Refusal>, index: Index) -> Outco
             reply: Reply::Yes,
         },
         Ok(None) => Outcome {
-            index: index,
+            index,
             reply: Reply::No,
         },
         Err(refusal) => Outcome {
-            index: index,
+            index,
             reply: Reply::Refused(u8::from(refusal)),
         },
     }
@@ -1165,18 +1052,16 @@ fn after_added(added: Result<Added, Refusal>, index: Index) -> Outcome {
             reply: Reply::Slot(added.slot),
         },
         Err(refusal) => Outcome {
-            index: index,
+            index,
             reply: Reply::Refused(u8::from(refusal)),
         },
     }
 }
 
 fn put_outcome(out: &mut [u8], outcome: Outcome) -> Replied {
-    let index = outcome.index;
-    let reply = outcome.reply;
     Replied {
-        index: index,
-        length: put_reply(out, reply),
+        index: outcome.index,
+        length: put_reply(out, outcome.reply),
     }
 }
 
@@ -1252,16 +1137,14 @@ fn put_hits(out: &mut [u8], at: usize, numbers: &[u64], scores: &[f32], n: usize
     next
 }
 
-// How many places an answer takes.
-fn places_taken(found: Result<usize, Refusal>) -> usize {
-    match found {
-        Ok(n) => n,
-        Err(_) => 0,
-    }
-}
-
-fn put_found(out: &mut [u8], found: Result<usize, Refusal>, numbers: &[u64], mark: u64, scores: &[f32]) -> usize {
-    let taken = places_taken(found);
+fn put_found(
+    out: &mut [u8],
+    found: Result<usize, Refusal>,
+    numbers: &[u64],
+    mark: u64,
+    scores: &[f32],
+) -> usize {
+    let taken = found.unwrap_or(0);
     let at = put_spilt(
         out,
         numbers_kept(numbers, taken, mark) && scores_kept(scores, taken),
@@ -1289,11 +1172,7 @@ fn put_file(out: &mut [u8], written: Result<usize, Refusal>, file: &[u8]) -> usi
 // ---- dump
 
 // Prints the record and the arrays piece by piece, but for the newline. Nothing is left in out.
-fn dump(
-    out: &mut [u8],
-    arrays: &Lent<'_>,
-    index: Index,
-) -> usize {
+fn dump(out: &mut [u8], arrays: &Lent<'_>, index: Index) -> usize {
     let n = put_record(out, index);
     flush(out, n);
     print_array(out, b" codes ", arrays.codes);
