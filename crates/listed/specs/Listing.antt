@@ -5,8 +5,6 @@ use Rattle.lists.specs.Lists.{tab, joined}
 use Rattle.half.specs.Half.{narrowed}
 use Rattle.numerals.specs.Numerals.{decimal_text}
 use Rattle.encode.specs.declared.Header.{Header}
-use Rattle.index.specs.declared.Index.{Index}
-use Rattle.index.specs.Verdict.{Verdict, granted, turned_down}
 use Rattle.index.specs.Arrays.{Arrays}
 use Rattle.index.specs.Step.{first_of, when}
 use Rattle.index.specs.Read.{little_endian, version_in, form_in, count_in, header_in, head_fault, stages_in, key_from, entries_in, read_refusal}
@@ -74,8 +72,3 @@ text_unless (suc n) file = refusal_line (suc n)
 
 unfoldable pub listing_text : (file : List ℕ) → List ℕ
 listing_text file = text_unless (listing_refusal file) file
-
--- the number of what reading answers, 0 for an index
-abbrev pub refusal_of : Verdict Index → ℕ
-refusal_of (granted x) = 0
-refusal_of (turned_down n) = n

@@ -24,14 +24,14 @@ module _ (file d : List ℕ) (at : ℕ) where
       go (suc m) e = rw e at p
 
   -- a line for each slot, with the keys that the entries give
-  pub put-accepted : (keys : List ℕ) (keyed : List Bool) (m n : ℕ) (d' : List ℕ) (next : ℕ) (d'' : List ℕ) (after : ℕ) → n ≡ m → n ≡ 0
+  pub put-accepted : (keys : List ℕ) (keyed : List Bool) (m : ℕ) (d' : List ℕ) (next : ℕ) (d'' : List ℕ) (after : ℕ) → 0 ≡ m
       → ((i : ℕ) → i < count_in file → key_at keys keyed i ≡ key_from (entries_in file) i) → Prints d at (head_line (version_in file) (header_in file) (count_in file)) d' next
       → Prints d' next (lines_of file (key_at keys keyed)) d'' after → Prints d at (text_unless m file) d'' after
-  put-accepted keys keyed m n d' next d'' after e z same p q =
+  put-accepted keys keyed m d' next d'' after e same p q =
       let keys_of : ℕ → Option ℕ = key_from (entries_in file) in
       let lines : lines_of file (key_at keys keyed) ≡ lines_of file keys_of =
       ap joined (tab-ext (λ i. slot_line i (key_at keys keyed i) (half_in file i)) (λ i. slot_line i (keys_of i) (half_in file i)) (count_in file) (λ i l. ap (λ (k : Option ℕ). slot_line i k (half_in file i)) (same i l))) in
-      rw (sym e ∙ z) (put_then d at (head_line (version_in file) (header_in file) (count_in file)) (lines_of file keys_of) d' next d'' after p (rw lines at q))
+      rw (sym e) (put_then d at (head_line (version_in file) (header_in file) (count_in file)) (lines_of file keys_of) d' next d'' after p (rw lines at q))
 
   pub put-short : (d' : List ℕ) (next : ℕ) → length file ≤ 65536 → Prints d at (text_unless (read_refusal file room) file) d' next → Prints d at (listing_text file) d' next
   unfolding listing_text

@@ -230,7 +230,7 @@ impl<'a> File<'a> {
         each_once(self.table(), self.entry_count(), self.n as usize)
     }
 
-    // The refusal that what follows the head gives; 0 for none.
+    // The refusal that what follows the head gives.
     #[tactic(auto, unfolding(crate::specs::Parts::body_fault, index::specs::Step::first_of, index::specs::Read::header_in))]
     fn check(&self) -> Result<(), Refusal>
         ensures { fault_of result ≡ body_fault self.now.bytes.now }
@@ -325,6 +325,11 @@ pub fn from_bytes(arrays: &mut LentMut<'_>, file: &[u8]) -> Result<Index, Refusa
         from.entry_count(),
         from.n as usize,
     );
-    from.read_stage(arrays.codes2, arrays.scales2, from.second_stage(), from.seconds());
+    from.read_stage(
+        arrays.codes2,
+        arrays.scales2,
+        from.second_stage(),
+        from.seconds(),
+    );
     Ok(index_in(file))
 }

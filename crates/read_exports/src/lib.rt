@@ -10,6 +10,7 @@ ghost use Rattle.words.specs.Exports.{left, reads};
 use index::{Lent, LentMut};
 
 // The refusal where the record has no place: 01 asks for what the file says first.
+#[tactic(auto, unfolding(index::specs::Step::first_of))]
 fn without_place(
     codes: &[u8],
     scales: &[u32],
@@ -24,7 +25,16 @@ fn without_place(
     ensures { result ≡ first_of (read_refusal file.now
         (lent codes.now scales.now keys.now keyed.now held.now alive.now codes2.now scales2.now) ∷ 13 ∷ []) }
 {
-    let arrays = Lent { codes, scales, keys, keyed, held, alive, codes2, scales2 };
+    let arrays = Lent {
+        codes,
+        scales,
+        keys,
+        keyed,
+        held,
+        alive,
+        codes2,
+        scales2,
+    };
     match read::check(&arrays, file) {
         Ok(()) => 13,
         Err(refusal) => u8::from(refusal),
@@ -55,7 +65,16 @@ pub extern "C" fn vecq_raw_from_bytes(
             codes, scales, keys, keyed, held, alive, codes2, scales2, file,
         );
     }
-    let mut arrays = LentMut { codes, scales, keys, keyed, held, alive, codes2, scales2 };
+    let mut arrays = LentMut {
+        codes,
+        scales,
+        keys,
+        keyed,
+        held,
+        alive,
+        codes2,
+        scales2,
+    };
     let read = read::from_bytes(&mut arrays, file);
     answer_words::put_made(read, fields)
 }

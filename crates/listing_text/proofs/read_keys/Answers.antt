@@ -1,13 +1,21 @@
-use Prim.Native.Nat.{ℕ}
-use lib.ListN.{length-replicate}
-use Rattle.listed.proofs.Room.{as-large}
-use Rattle.listing_text.proofs.Reading.{read_as}
+use Rattle.std.proofs.Common.{rules, ◌≡◌, Ok, Err}
+use Rattle.listing_text.proofs.Reading.{as-lent, fault-told, keys_are}
 use Rattle.listing_text.proofs.read_keys.Goals as goal
 
-pub returns : goal.returns
-returns c =
-    let bytes = length-replicate {A = ℕ} 32768 0 in
-    let slots = length-replicate {A = ℕ} 1024 0 in
-    let is =
-    read_as c.args.file.now _ _ _ c.from_bytes-made.ensures (as-large _ bytes slots c.requires.0 c.requires.1 slots slots bytes slots) _ c.refusal_of.ensures in
-    record { refusal = is.0; keys_after = is.1 }
+pub returns-in_err-from_bytes-clause-refusal : goal.returns-in_err-from_bytes-clause-refusal
+returns-in_err-from_bytes-clause-refusal c =
+    let r = c.in_err-from_bytes.field-0.0 in
+    let k : c.from_residual.result ≡ Err r = search rules in
+    rw k (fault-told c.args.file.now _ (Err r) _ c.in_err-from_bytes.ensures.answers (as-lent _ _ c.requires.0 c.requires.1))
+
+pub returns-clause-refusal : goal.returns-clause-refusal
+returns-clause-refusal c =
+    let read = c.in_ok-from_bytes in
+    fault-told c.args.file.now _ (Ok read.field-0) _ read.ensures.answers (as-lent _ _ c.requires.0 c.requires.1)
+
+-- the arrays that are lent to the call are keys and keyed still
+pub returns-clause-keys_after : goal.returns-clause-keys_after
+returns-clause-keys_after c =
+    let read = c.in_ok-from_bytes in
+    keys_are c.args.file.now _ (Ok read.field-0) _ read.ensures.answers (as-lent _ _ c.requires.0 c.requires.1) _ _
+    (search rules) (search rules)

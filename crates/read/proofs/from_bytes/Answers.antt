@@ -1,4 +1,4 @@
-use Rattle.std.proofs.Common.{rules, arith, ◌≡◌, Err, sym, ◌∙◌}
+use Rattle.std.proofs.Common.{rules, arith, ◌≡◌, Err, sym}
 use Rattle.refusal.proofs.Numbers.{above_0}
 use Rattle.read.proofs.Faults.{passed-head, read_none}
 use Rattle.read.proofs.Call.{first-room, marks-room, second-room, done}
