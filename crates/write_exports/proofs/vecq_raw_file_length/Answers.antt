@@ -9,4 +9,5 @@ returns-in_default c = misfit-left _ _ _ _ c.record_beside.ensures _ _ c.in_defa
 
 pub returns : goal.returns
 returns c =
-    told-left _ _ _ _ c.record_beside.ensures _ c.in-Some.is _ _ _ c.file_length-length.ensures (length-words (verdict c.file_length-length.result)) _ _ (c.put_count.ensures ∙ count-answer _ _)
+    let length = verdict c.file_length-length.result in
+    told-left _ _ _ _ c.record_beside.ensures _ c.in-Some.is _ _ _ c.file_length-length.ensures (length-words length) _ _ (c.put_count.ensures ∙ count-answer length c.args.answer.now)
