@@ -2,7 +2,6 @@ use Rattle.std.proofs.Common.{rules, ◌≡◌, Err}
 use mathlib.Core.Path.{sym, ◌∙◌}
 use Prim.Native.Nat.{◌<◌}
 use native.Mathlib.Omega.{arith}
-use Rattle.index.specs.Arrays.{lent}
 use Rattle.index.proofs.Calls.{call-misfit}
 use Rattle.remarking.specs.Live.{with_live}
 use Rattle.remarking.proofs.Marked.{room}
@@ -11,37 +10,28 @@ use Rattle.removal.proofs.remove_keyed.Goals as goal
 
 pub returns-then-many-eq0 : goal.returns-then-many-eq0
 returns-then-many-eq0 c =
-    let a = lent c.args.codes.now c.args.scales.now c.args.keys.now c.args.keyed.now c.args.held.now c.args.alive.now c.args.codes2.now c.args.scales2.now in
-    let e = c.in_ok-check.ensures in
-    sym (remove-no c.args.index a e c.args.key (sym c.held_count-many.ensures ∙ c.if-many-eq0.true))
+    sym (remove-no _ _ c.in_ok-check.ensures c.args.key (sym c.held_count-many.ensures ∙ c.if-many-eq0.true))
 
 pub remove_slots-requires : goal.remove_slots-requires
 remove_slots-requires c =
-    let a = lent c.args.codes.now c.args.scales.now c.args.keys.now c.args.keyed.now c.args.held.now c.args.alive.now c.args.codes2.now c.args.scales2.now in
-    let e = c.in_ok-check.ensures in
-    let r = room c.args.index a e in
+    let r = room _ _ c.in_ok-check.ensures in
     (r.keyed, r.held, r.alive)
 
 pub overflow_sub-result : goal.overflow_sub-result
 overflow_sub-result c =
-    let a = lent c.args.codes.now c.args.scales.now c.args.keys.now c.args.keyed.now c.args.held.now c.args.alive.now c.args.codes2.now c.args.scales2.now in
-    let e = c.in_ok-check.ensures in
     let n = c.held_count-many.ensures in
-    let some : 0 < many c.args.index a e c.args.key = omega (arith, n, c.if-many-eq0.false) in
-    omega (arith, n, remove-few c.args.index a e c.args.key some)
+    let some : 0 < many _ _ c.in_ok-check.ensures c.args.key = omega (arith, n, c.if-many-eq0.false) in
+    omega (arith, n, remove-few _ _ c.in_ok-check.ensures c.args.key some)
 
 pub returns : goal.returns
 unfolding with_live
 returns c =
-    let a = lent c.args.codes.now c.args.scales.now c.args.keys.now c.args.keyed.now c.args.held.now c.args.alive.now c.args.codes2.now c.args.scales2.now in
-    let e = c.in_ok-check.ensures in
     let n = c.held_count-many.ensures in
-    let some : 0 < many c.args.index a e c.args.key = omega (arith, n, c.if-many-eq0.false) in
+    let some : 0 < many _ _ c.in_ok-check.ensures c.args.key = omega (arith, n, c.if-many-eq0.false) in
     let w = c.remove_slots.ensures in
-    rw n (sym (remove-yes c.args.index a e c.args.key some _ w))
+    rw n (sym (remove-yes _ _ c.in_ok-check.ensures c.args.key some _ w))
 
 pub returns-in_err-check : goal.returns-in_err-check
 returns-in_err-check c =
-    let a = lent c.args.codes.now c.args.scales.now c.args.keys.now c.args.keyed.now c.args.held.now c.args.alive.now c.args.codes2.now c.args.scales2.now in
     let k : c.from_residual.result ≡ Err c.in_err-check.field-0.0 = search rules in
-    rw (k, c.in_err-check.ensures.1) (sym (call-misfit c.args.index a _ c.in_err-check.ensures.0))
+    rw (k, c.in_err-check.ensures.1) (sym (call-misfit _ _ _ c.in_err-check.ensures.0))
