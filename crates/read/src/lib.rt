@@ -20,12 +20,14 @@ use refusal::Refusal;
 
 // ---- key entries
 
+#[tactic(auto, unfolding(index::specs::Read::entry_from))]
 fn entry_slot(table: &[u8], i: u32) -> usize
     ensures { result ≡ (entry_from table.now i).slot }
 {
     little_endian::rd_u32(little_endian::after(table, 4 + i as usize * 12)) as usize
 }
 
+#[tactic(auto, unfolding(index::specs::Read::entry_from))]
 fn entry_key(table: &[u8], i: u32) -> u64
     ensures { result ≡ (entry_from table.now i).key }
 {

@@ -178,12 +178,6 @@ module _ (fs : List ℕ) (r : Record) (e : r ≡ record_in fs) (op : Op) (a : Ar
     made-left (granted y) g = by-record _ g _ (ap (λ (q : Put). left q.number q.words [] b) (sym (record-put fs (eight fs x (sym is ∙ e)) y)))
     made-left (turned_down k) g = by-record _ g _ (refusal-left 0 fs [] r (e ∙ beside_none fs) x is k b)
 
--- a refusal, and 13 where there is none
-pub refused-else : (n : ℕ) → (n ≡ 0 → ⊥) → n ≡ first_of (n ∷ 13 ∷ [])
-unfolding first_of
-refused-else zero s = absurd (s refl)
-refused-else (suc n) s = refl
-
 module _ (file fs : List ℕ) (a : Arrays) where
   -- what is left of the record that reading answers, by its refusal
   abbrev words_after : (refusal : ℕ) → Put
