@@ -7,7 +7,7 @@ use lib.ListN.{length}
 use lib.Ieee.{Float}
 use Rattle.lists.specs.Lists.{over}
 use Rattle.index.specs.declared.Index.{Index}
-use Rattle.index.specs.Verdict.{Verdict, granted, turned_down}
+use Rattle.index.specs.Verdict.{granted, turned_down}
 use Rattle.index.specs.Arrays.{Arrays}
 use Rattle.index.specs.State.{header_of, state_of}
 use Rattle.index.specs.Step.{Query, Hit, Answer, hits, when, unless, live_from, by_slot, searched, answered, step}

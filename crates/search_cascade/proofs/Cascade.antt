@@ -16,7 +16,7 @@ use Rattle.score.specs.Order.{order_number}
 use Rattle.lists.proofs.Tests.{both}
 use Rattle.encode.specs.Coded.{fault}
 use Rattle.index.specs.declared.Index.{Index}
-use Rattle.index.specs.Verdict.{Verdict, granted, turned_down}
+use Rattle.index.specs.Verdict.{granted, turned_down}
 use Rattle.index.specs.Arrays.{Arrays}
 use Rattle.index.specs.State.{header_of, slot_at, state_of}
 use Rattle.index.specs.Fit.{fit}

@@ -1,4 +1,4 @@
-use Rattle.std.proofs.Common.{rules, arith, sym, ◌≡◌, Err}
+use Rattle.std.proofs.Common.{rules, arith, ◌≡◌, Err}
 use Rattle.refusal.proofs.Numbers.{above_0}
 use Rattle.search_keyed.proofs.Keys.{keys-refused}
 use Rattle.search_keyed.proofs.search_keyed.Goals as goal
