@@ -12,7 +12,7 @@
 
 ghost use Rattle.std.specs.Prelude.{◌≡◌, [], ◌∷◌, ◌++◌, ℕ, ◌%◌, ◌≤◌, ◌<◌, length};
 ghost use Rattle.print.specs.Printed.{Prints};
-ghost use Rattle.refusal.specs.Refusal.{fault_of};
+ghost use Rattle.refusal.specs.Refusal.{number_of, fault_of};
 ghost use Rattle.slot_keys.specs.Has.{key_at};
 ghost use Rattle.index.specs.Step.{first_of};
 ghost use Rattle.index.specs.Read.{version_in, count_in, header_in, head_fault, key_from, entries_in, read_refusal};
@@ -51,12 +51,12 @@ fn read_keys(keys: &mut [u64], keyed: &mut [bool], file: &[u8]) -> Result<(), Re
 
 // The refusal of a file that is too long: that of its head, else 20, since nothing after the head is tested before 20.
 #[tactic(auto, unfolding(index::specs::Step::first_of))]
-fn long_refusal(file: &[u8]) -> u8
-    ensures { result ≡ first_of (head_fault file.now ∷ 20 ∷ []) }
+fn long_refusal(file: &[u8]) -> Refusal
+    ensures { number_of result ≡ first_of (head_fault file.now ∷ 20 ∷ []) }
 {
     match header::check(file) {
-        Err(refusal) => u8::from(refusal),
-        Ok(()) => 20,
+        Err(refusal) => refusal,
+        Ok(()) => Refusal::TooLarge,
     }
 }
 
@@ -74,9 +74,10 @@ fn half_of(file: &[u8], slot: u32) -> u16
 
 // ---- lines, put from a place on
 
-fn put_refusal(out: &mut [u8], number: u8) -> usize
-    ensures { Prints out.old 0 (refusal_line number) out.new result }
+fn put_refusal(out: &mut [u8], refusal: Refusal) -> usize
+    ensures { Prints out.old 0 (refusal_line (number_of refusal)) out.new result }
 {
+    let number = u8::from(refusal);
     let end = numerals::put_decimal(out, 0, number as u64);
     print::put_byte(out, end, b'\n')
 }
@@ -167,7 +168,7 @@ fn put_read(out: &mut [u8], file: &[u8]) -> usize
     let mut keys = [0u64; 1024];
     let mut keyed = [false; 1024];
     if let Err(refusal) = read_keys(&mut keys, &mut keyed, file) {
-        return put_refusal(out, u8::from(refusal));
+        return put_refusal(out, refusal);
     }
     let at = put_head(out, file);
     put_slots(out, at, &keys, &keyed, file)
