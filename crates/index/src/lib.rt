@@ -1,4 +1,5 @@
-// The record of an index, the answers of its calls, what a version of a file has, and the specification that all of them cite (specs/).
+// The record of an index, the arrays that are lent with it, what the adding calls answer, what a version of a file has,
+// and the specification that all of them cite (specs/).
 #![tactic(auto)]
 
 ghost use Rattle.std.specs.Prelude.{◌≡◌};
@@ -44,7 +45,7 @@ pub struct LentMut<'a> {
 }
 
 impl LentMut<'_> {
-    // To be read.
+    // The same arrays, lent to be read.
     pub fn view(&self) -> Lent<'_>
         ensures { contents result ≡ contents_mut self.now }
     {

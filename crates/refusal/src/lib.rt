@@ -6,43 +6,43 @@ ghost use Rattle.refusal.specs.Refusal.{number_of};
 
 #[derive(Clone, Copy, Debug, PartialEq, Eq)]
 pub enum Refusal {
-    // the vector's length is not dim
+    // The vector's length is not dim.
     Length = 1,
-    // its sum of squares is zero or NaN
+    // Its sum of squares is zero or NaN.
     ZeroOrNan = 2,
-    // its sum of squares is infinite
+    // Its sum of squares is infinite.
     Infinite = 3,
-    // dim outside 1..4,096, or working_dim outside 1..dim
+    // `dim` is outside 1..4,096, or `working_dim` outside 1..dim.
     Dims = 4,
-    // the width is not 4, 5 or 6
+    // The width is not 4, 5 or 6.
     Width = 5,
-    // the width is set while slots are in use
+    // The width is set while slots are in use.
     SlotsInUse = 6,
-    // a residual index of width 5 or 6
+    // A residual index of width 5 or 6.
     ResidualWidth = 7,
-    // an append with as many slots in use as there is room for
+    // An append with as many slots in use as there is room for.
     Full = 8,
-    // a slot to score at or past those in use
+    // A slot to score at or past those in use.
     NoSlot = 9,
-    // a cascade at width 5 or 6, or not enabled
+    // A cascade at width 5 or 6, or not enabled.
     NoCascade = 11,
-    // a score to be ranked or returned is NaN
+    // A score to be ranked or returned is NaN.
     ScoreNan = 12,
-    // record and lent arrays misfit
+    // Record and lent arrays misfit, the places for a result or a file are too few, or, in making, a lent array holds no slot.
     Misfit = 13,
-    // the file ends early
+    // The file ends early.
     EndsEarly = 14,
-    // its first bytes are not VECQ
+    // Its first bytes are not VECQ.
     NotVecq = 15,
-    // its version is unknown
+    // Its version is unknown.
     Version = 16,
-    // its working_dim is over dim, or dim is 0
+    // Its working_dim is over dim, or dim is 0.
     FileDims = 17,
-    // its width byte is not 4, 5 or 6
+    // Its width byte is not 4, 5 or 6.
     FileWidth = 18,
-    // a key entry past the count, or a slot twice
+    // A key entry past the count, or a slot twice.
     KeyEntry = 19,
-    // its dim is over 4,096, or its count over 65,536 or over the lent arrays
+    // Its dim is over 4,096, or its count over 65,536 or over the lent arrays.
     TooLarge = 20,
 }
 
