@@ -31,7 +31,16 @@ pub extern "C" fn vecq_raw_add(
     let Some(index) = words::record_beside(fields, answer, 1) else {
         return 13;
     };
-    let mut arrays = LentMut { codes, scales, keys, keyed, held, alive, codes2, scales2 };
+    let mut arrays = LentMut {
+        codes,
+        scales,
+        keys,
+        keyed,
+        held,
+        alive,
+        codes2,
+        scales2,
+    };
     let added = add::add(index, &mut arrays, vector);
     answer_words::put_added(added, fields, answer)
 }

@@ -32,7 +32,16 @@ pub extern "C" fn vecq_raw_add_keyed(
     let Some(index) = words::record_beside(fields, answer, 1) else {
         return 13;
     };
-    let mut arrays = LentMut { codes, scales, keys, keyed, held, alive, codes2, scales2 };
+    let mut arrays = LentMut {
+        codes,
+        scales,
+        keys,
+        keyed,
+        held,
+        alive,
+        codes2,
+        scales2,
+    };
     let added_keyed = add_keyed::add_keyed(index, &mut arrays, key, vector);
     answer_words::put_added(added_keyed, fields, answer)
 }

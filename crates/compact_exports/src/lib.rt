@@ -28,7 +28,16 @@ pub extern "C" fn vecq_raw_compact(
     let Some(index) = words::record_in(fields) else {
         return 13;
     };
-    let mut arrays = LentMut { codes, scales, keys, keyed, held, alive, codes2, scales2 };
+    let mut arrays = LentMut {
+        codes,
+        scales,
+        keys,
+        keyed,
+        held,
+        alive,
+        codes2,
+        scales2,
+    };
     let compacted = compact::compact(index, &mut arrays);
     answer_words::put_made(compacted, fields)
 }

@@ -29,7 +29,16 @@ pub extern "C" fn vecq_raw_file_length(
     let Some(index) = words::record_beside(fields, answer, 1) else {
         return 13;
     };
-    let arrays = Lent { codes, scales, keys, keyed, held, alive, codes2, scales2 };
+    let arrays = Lent {
+        codes,
+        scales,
+        keys,
+        keyed,
+        held,
+        alive,
+        codes2,
+        scales2,
+    };
     let length = layout::file_length(index, &arrays);
     answer_words::put_count(length, answer)
 }
@@ -57,7 +66,16 @@ pub extern "C" fn vecq_raw_to_bytes(
     let Some(index) = words::record_beside(fields, answer, 1) else {
         return 13;
     };
-    let arrays = Lent { codes, scales, keys, keyed, held, alive, codes2, scales2 };
+    let arrays = Lent {
+        codes,
+        scales,
+        keys,
+        keyed,
+        held,
+        alive,
+        codes2,
+        scales2,
+    };
     let written = write::to_bytes(index, &arrays, file);
     answer_words::put_count(written, answer)
 }

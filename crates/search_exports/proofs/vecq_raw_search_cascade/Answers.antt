@@ -1,5 +1,5 @@
-use Rattle.index.specs.Verdict.{verdict}
 use mathlib.Core.Path.{refl}
+use Rattle.index.specs.Verdict.{verdict}
 use Rattle.index.specs.Answers.{found}
 use Rattle.words.proofs.Exports.{no_record, list_done}
 use Rattle.search_exports.proofs.vecq_raw_search_cascade.Goals as goal
