@@ -163,7 +163,7 @@ fn subtract(xs: &[f32], ys: &[f32], out: &mut [f32])
 fn at_least_floor(x: f32) -> f32
     ensures { result ≡ larger x floor }
 {
-    if x != x {
+    if x.is_nan() {
         return 1e-12;
     }
     if x < 1e-12 {

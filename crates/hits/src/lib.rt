@@ -17,8 +17,8 @@ ghost use Rattle.hits.specs.Steps.{prepared_score, Scores, EntersSlot, EntersSlo
 
 use index::{Index, Lent};
 
-// Why `list` writes no hits: a score is NaN; or it is unable to, for more than 65,536 slots, a width that there is not, a query too short, or too few places. The
-// refusals of a search are its callers' to say.
+// Why `list` writes no hits: a score is NaN; or it is unable to, for more than 65,536 slots, no such width, a working_dim out of range, a query too short, or too
+// few places. The refusals of a search are its callers' to say.
 #[derive(Clone, Copy, Debug, PartialEq, Eq)]
 pub enum Unlisted {
     Nan,
@@ -106,7 +106,7 @@ fn enter_slot(marks: &[u8], slot: usize, all: &mut [f32], orders: &mut [u32]) ->
         return true;
     }
     let score = all[slot];
-    if score != score {
+    if score.is_nan() {
         return false;
     }
     orders[slot] = scoring::order_number(score);

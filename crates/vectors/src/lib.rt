@@ -23,17 +23,13 @@ pub fn sum_squares(xs: &[f32]) -> f32
 fn check_sum(sum: f32) -> Result<(), Refusal>
     ensures { fault_of result ≡ sum_fault sum }
 {
-    if sum != sum {
+    if sum.is_nan() {
         return Err(Refusal::ZeroOrNan);
     }
     if sum == 0.0 {
         return Err(Refusal::ZeroOrNan);
     }
-    let infinity = 1.0f32 / 0.0;
-    if sum == infinity {
-        return Err(Refusal::Infinite);
-    }
-    if sum == -infinity {
+    if sum.is_infinite() {
         return Err(Refusal::Infinite);
     }
     Ok(())

@@ -1,9 +1,8 @@
 use Rattle.std.proofs.Common.{◌∙◌}
-use mathlib.Core.Path.{refl, sym, ap}
+use mathlib.Core.Path.{refl, sym}
 use lib.ListN.{get_or}
 use lib.Seq.{set-get_or}
-use lib.Ieee.{nan, of_bits, is_nan}
-use Rattle.vectors.proofs.FloatTests.{is-nan, no_nan}
+use lib.Ieee.{nan, of_bits}
 use Rattle.hits.proofs.Entering.{enters-not, enters-nan, enters-score}
 use Rattle.hits.proofs.enter_slot.Goals as goal
 
@@ -13,13 +12,12 @@ returns-then-not-is_marked c =
     let a = c.args in
     enters-not (λ i. get_or a.all.now i nan) a.marks.now a.slot a.all.now _ a.orders.now _ (sym c.is_marked.ensures ∙ c.if-not-is_marked.true) refl refl
 
-pub returns-then-score : goal.returns-then-score
-unfolding is_nan
-returns-then-score c =
+pub returns-then-is_nan : goal.returns-then-is_nan
+returns-then-is_nan c =
     let a = c.args in
-    enters-nan (λ i. get_or a.all.now i nan) a.marks.now a.slot a.all.now _ a.orders.now _ (sym c.is_marked.ensures ∙ c.if-not-is_marked.false) (ap is_nan (is-nan (get_or a.all.now a.slot nan) c.if-score.true))
+    enters-nan (λ i. get_or a.all.now i nan) a.marks.now a.slot a.all.now _ a.orders.now _ (sym c.is_marked.ensures ∙ c.if-not-is_marked.false) (sym c.if-is_nan.ensures.value)
 
 pub returns : goal.returns
 returns c =
     let a = c.args in
-    enters-score (λ i. get_or a.all.now i nan) a.marks.now a.slot a.all.now _ a.orders.now _ (sym c.is_marked.ensures ∙ c.if-not-is_marked.false) (no_nan _ c.if-score.false) (sym (set-get_or a.all.now a.slot nan)) _ c.order_number.ensures refl
+    enters-score (λ i. get_or a.all.now i nan) a.marks.now a.slot a.all.now _ a.orders.now _ (sym c.is_marked.ensures ∙ c.if-not-is_marked.false) (sym c.if-is_nan.ensures.value) (sym (set-get_or a.all.now a.slot nan)) _ c.order_number.ensures refl
