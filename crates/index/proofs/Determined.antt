@@ -9,7 +9,11 @@ use Rattle.pattern.specs.Binary32.{+0}
 use Rattle.lists.specs.Lists.{over}
 use Rattle.lists.proofs.Laws.{get_d_default, length-tab, get_or-tab}
 use Rattle.lists.proofs.Front.{get_d_front, get_or-over-map, drop-over, front_rest, tab-is}
-use Rattle.index.specs.Verdict.{Verdict, granted, turned_down}
+use Rattle.std.specs.Prelude.{Result, Ok, Err}
+use Rattle.refusal.specs.declared.Refusal.{Refusal}
+use Rattle.refusal.specs.Refusal.{number_of}
+use Rattle.refusal.proofs.Numbers.{same-number}
+use Rattle.index.specs.Verdict.{Verdict, granted, turned_down, verdict}
 use Rattle.index.specs.Step.{refused, hits, key_hits, bytes}
 use Rattle.index.specs.Answers.{how_many, first_entries, first_pairs, found, found_keyed, wrote, LaterKept}
 
@@ -108,3 +112,24 @@ module _ (file next next' : List ℕ) (long : length next ≡ length file) (long
   wrote-determines (turned_down n) (turned_down n') l l' e = (ap turned_down (let f : refused n ≡ refused n' = e in cc), l ∙ sym l')
   wrote-determines (granted m) (turned_down n) l l' e = absurd (let f : bytes (first_entries m next) ≡ refused n = e in let z : ◌≡◌ {A = ℕ} 0 1 = cc in omega arith)
   wrote-determines (turned_down n) (granted m) l l' e = absurd (let f : refused n ≡ bytes (first_entries m next') = e in let z : ◌≡◌ {A = ℕ} 0 1 = cc in omega arith)
+
+-- ---- and with its verdict the answer of the code
+
+pub same-verdict : {A : Type 0} (r r' : Result A Refusal) → verdict r ≡ verdict r' → r ≡ r'
+same-verdict (Ok x) (Ok y) e = ap Ok (let f : granted x ≡ granted y = e in cc)
+same-verdict (Err r) (Err r') e = ap Err (same-number r r' (let f : turned_down (number_of r) ≡ turned_down (number_of r') = e in cc))
+same-verdict (Ok x) (Err r) e = absurd (let f : granted x ≡ turned_down (number_of r) = e in let z : ◌≡◌ {A = ℕ} 0 1 = cc in omega arith)
+same-verdict (Err r) (Ok x) e = absurd (let f : turned_down (number_of r) ≡ granted x = e in let z : ◌≡◌ {A = ℕ} 0 1 = cc in omega arith)
+
+module _ (ns : List ℕ) (ss : List Float) (ms ms' : List ℕ) (ts ts' : List Float) (r r' : Result ℕ Refusal) (l : Left ns ss (verdict r) ms ts) (l' : Left ns ss (verdict r') ms' ts') where
+  pub found-answer : found (verdict r) ms ts ≡ found (verdict r') ms' ts' → (r ≡ r') × ((ms ≡ ms') × (ts ≡ ts'))
+  found-answer e = let d = found-determines ns ss ms ms' ts ts' (verdict r) (verdict r') l l' e in (same-verdict r r' d.0, d.1)
+
+  pub keyed-answer : found_keyed (verdict r) ms ts ≡ found_keyed (verdict r') ms' ts' → (r ≡ r') × ((ms ≡ ms') × (ts ≡ ts'))
+  keyed-answer e = let d = keyed-determines ns ss ms ms' ts ts' (verdict r) (verdict r') l l' e in (same-verdict r r' d.0, d.1)
+
+pub wrote-answer : (file next next' : List ℕ) → length next ≡ length file → length next' ≡ length file → (r r' : Result ℕ Refusal) →
+    LaterKept (how_many (verdict r)) file next → LaterKept (how_many (verdict r')) file next' → wrote (verdict r) next ≡ wrote (verdict r') next' → (r ≡ r') × (next ≡ next')
+wrote-answer file next next' long long' r r' k k' e =
+    let d = wrote-determines file next next' long long' (verdict r) (verdict r') k k' e in
+    (same-verdict r r' d.0, d.1)

@@ -14,7 +14,7 @@ use Rattle.lists.proofs.Tests.{both}
 use Rattle.codes.specs.Packing.{bytes_per_vector}
 use Rattle.codes.specs.Writing.{at_width}
 use Rattle.codes.proofs.Tests.{at_width_lem}
-use Rattle.score.specs.Score.{raw_sums, fitting, of_block, raw_of_block, block_products}
+use Rattle.score.specs.Score.{fitting, of_block, block_products}
 
 -- ---- the last test
 
@@ -46,11 +46,11 @@ pub at-four : (w block query : ℕ) → w ≡ 4 → block ≡ bytes_per_vector w
 unfolding bytes_per_vector
 at-four w block query e s = omega (arith, s, rw e at s)
 
-module _ (w : ℕ) (centroids : List Float) (block : List ℕ) (query : List Float) (r : Bool) (is : r ≡ fitting w (length centroids) (length block) (length query)) where
-  pub summed : r ≡ true → raw_sums w (block_products w centroids block query) ≡ raw_of_block w centroids block query
-  unfolding raw_of_block of_block
+module _ (sums : List Float → Float) (w : ℕ) (centroids : List Float) (block : List ℕ) (query : List Float) (r : Bool) (is : r ≡ fitting w (length centroids) (length block) (length query)) where
+  pub summed : r ≡ true → sums (block_products w centroids block query) ≡ of_block sums w centroids block query
+  unfolding of_block
   summed n = rw (sym is ∙ n)
 
-  pub misfit : r ≡ false → of_bits binary32 0 ≡ raw_of_block w centroids block query
-  unfolding raw_of_block of_block of_bits
+  pub misfit : r ≡ false → of_bits binary32 0 ≡ of_block sums w centroids block query
+  unfolding of_block of_bits
   misfit n = rw (sym is ∙ n)

@@ -1,9 +1,11 @@
 use mathlib.Core.Path.{◌∙◌}
+use Rattle.score.specs.Score.{raw_sums, raw_of_block}
 use Rattle.kernels.proofs.Fits.{fits, summed, misfit}
 use Rattle.kernels.proofs.raw_score.Goals as goal
 
 pub returns-then-not-fitting : goal.returns-then-not-fitting
-returns-then-not-fitting c = misfit _ _ _ _ _ c.fitting.ensures c.if-not-fitting.true
+unfolding raw_of_block
+returns-then-not-fitting c = misfit (raw_sums _) _ _ _ _ _ c.fitting.ensures c.if-not-fitting.true
 
 pub invariant_of-block : goal.invariant_of-block
 invariant_of-block c =
@@ -11,4 +13,5 @@ invariant_of-block c =
     record { from = f.from; to = f.to; table = f.table; bytes = λ i. (c.type_inv.codes i).fits; size = f.size }
 
 pub returns : goal.returns
-returns c = c.raw_score.ensures ∙ summed _ _ _ _ _ c.fitting.ensures c.if-not-fitting.false
+unfolding raw_of_block
+returns c = c.raw_score.ensures ∙ summed (raw_sums _) _ _ _ _ _ c.fitting.ensures c.if-not-fitting.false
