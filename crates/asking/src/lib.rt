@@ -10,7 +10,7 @@ ghost use Rattle.asking.specs.Faults.{places_fault, search_fault};
 use index::{Index, Lent};
 use refusal::Refusal;
 
-// How many places a result needs, keyed too: as many as a search lists hits.
+// How many places a result needs, a keyed search's too: as many as a search lists hits.
 pub fn places_needed(k: usize, live: usize) -> usize
     ensures { result ≡ min (max k 1) live }
 {

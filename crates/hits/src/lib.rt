@@ -10,19 +10,30 @@ ghost use Rattle.lists.specs.Lists.{over};
 ghost use Rattle.lists.specs.Keep.{Each};
 ghost use Rattle.unit.specs.Brought.{query_of};
 ghost use Rattle.padding.specs.Rotatable.{rotatable};
+ghost use Rattle.refusal.specs.declared.Refusal.TheVariants.{ScoreNan};
 ghost use Rattle.index.specs.Lent.{contents};
 ghost use Rattle.scan.specs.Scan.{takes_part};
 ghost use Rattle.hits.specs.Hits.{slot_score_in, list_answer, shown, ready};
 ghost use Rattle.hits.specs.Steps.{prepared_score, Scores, EntersSlot, EntersSlots, WritesHits, any_takes_part, count_answer, ListsHits};
 
 use index::{Index, Lent};
+use refusal::Refusal;
 
 // Why `list` writes no hits: a score is NaN; or it is unable to, for more than 65,536 slots, no such width, a working_dim out of range, a query too short, or too
-// few places. The refusals of a search are its callers' to say.
+// few places.
 #[derive(Clone, Copy, Debug, PartialEq, Eq)]
 pub enum Unlisted {
     Nan,
     Unable,
+}
+
+// The refusal of a search whose list writes no hits: after a search's tests the list can be made, so a score is NaN.
+impl From<Unlisted> for Refusal {
+    ghost from_gives = { λ _ r. r ≡ ScoreNan };
+
+    fn from(_: Unlisted) -> Refusal {
+        Refusal::ScoreNan
+    }
 }
 
 // ---- whether the call can be made

@@ -29,9 +29,6 @@ pub fn search(
         × LaterKept (how_many (verdict result)) scores.old scores.new }
 {
     asking::check_search(index, arrays, query, k, slots.len(), scores.len())?;
-    let Ok(m) = hits::list(index, arrays, arrays.alive, query, k, slots, scores) else {
-        // After these tests it can be made: a score is NaN.
-        return Err(Refusal::ScoreNan);
-    };
-    Ok(m)
+    // After these tests the list can be made: where there is none, a score is NaN.
+    Ok(hits::list(index, arrays, arrays.alive, query, k, slots, scores)?)
 }

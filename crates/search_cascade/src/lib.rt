@@ -74,9 +74,6 @@ pub fn search_cascade(
     let mut marks = [0u8; 65536];
     let many = candidates_wanted(k, r, index.live);
     nearest::mark_nearest(index, arrays.codes, arrays.alive, query, many, &mut marks);
-    let Ok(m) = hits::list(index, arrays, &marks, query, k, slots, scores) else {
-        // After these tests it can be made: a score is NaN.
-        return Err(Refusal::ScoreNan);
-    };
-    Ok(m)
+    // After these tests the list can be made: where there is none, a score is NaN.
+    Ok(hits::list(index, arrays, &marks, query, k, slots, scores)?)
 }

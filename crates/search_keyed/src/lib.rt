@@ -34,9 +34,7 @@ fn name_hits(
     ensures scores_after { scores.new ≡ over (map (λ e. e.1) (keyed_of arrays.now.keys.now arrays.now.keyed.now slots.now found.now
         (min (length names.old) (length scores.old)) listed)) scores.old }
 {
-    let Ok(m) = listed else {
-        return Err(Refusal::ScoreNan);
-    };
+    let m = listed?;
     Ok(distinct::list_keys(
         arrays.keys,
         arrays.keyed,

@@ -2,7 +2,7 @@ use Rattle.std.proofs.Common.{rules, arith, refl, ◌≡◌, ℕ, Err}
 use Rattle.std.proofs.Math.ListN.{replicate}
 use Rattle.std.proofs.lemmas.List.{length-replicate}
 use Rattle.refusal.proofs.Numbers.{above_0}
-use Rattle.asking.proofs.Answers.{is-other}
+use Rattle.refusal.specs.declared.Refusal.TheVariants.{ScoreNan}
 use Rattle.search_cascade.proofs.Cascade.{cascade-refused, cascade-listed, cascade-nan}
 use Rattle.search_cascade.proofs.search_cascade.Goals as goal
 
@@ -13,18 +13,19 @@ returns-in_err-check c =
     let m = cascade-refused _ _ _ _ _ _ _ c.in_err-check.ensures c.args.slots.now c.args.scores.now (λ z. omega (arith, above_0 r, z)) in
     record { answers = rw k m.0; later_kept = rw k m.1 }
 
-pub returns-in_default : goal.returns-in_default
-returns-in_default c =
+pub returns-in_err-list : goal.returns-in_err-list
+returns-in_err-list c =
     let listed = c.list.ensures in
+    let k : c.from_residual-in_err-list.result ≡ Err ScoreNan = search rules in
     let m =
     cascade-nan _ _ _ _ _ _ _ c.in_ok-check.ensures _ _ refl (replicate 65536 0) _ (length-replicate {A = ℕ} 65536 0) _
-    c.candidates_wanted-many.ensures c.mark_nearest.ensures _ _ _ listed.answer listed.slots_after listed.scores_after (is-other c.list.result c.in_default.not-Ok) in
-    record { answers = m.0; later_kept = m.1 }
+    c.candidates_wanted-many.ensures c.mark_nearest.ensures _ _ _ listed.answer listed.slots_after listed.scores_after (rw c.in_err-list.was tt) in
+    record { answers = rw k m.0; later_kept = rw k m.1 }
 
 pub returns : goal.returns
 returns c =
     let listed = c.list.ensures in
     let m =
     cascade-listed _ _ _ _ _ _ _ c.in_ok-check.ensures _ _ refl (replicate 65536 0) _ (length-replicate {A = ℕ} 65536 0) _
-    c.candidates_wanted-many.ensures c.mark_nearest.ensures _ _ _ listed.answer listed.slots_after listed.scores_after _ c.in-Ok.is in
+    c.candidates_wanted-many.ensures c.mark_nearest.ensures _ _ _ listed.answer listed.slots_after listed.scores_after _ c.in_ok-list.was in
     record { answers = m.0; later_kept = m.1 }
