@@ -3,3 +3,4 @@ pub mod Places
 pub mod Below
 pub mod Number
 pub mod Digits
+pub mod Bytes

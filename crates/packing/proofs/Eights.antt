@@ -1,19 +1,19 @@
 -- Codes in eights. Eight codes of w bits are w bytes, so each eight is packed by itself, as one number.
 use mathlib.Core.Path.{◌≡◌, refl, sym, ap, ap₂, ◌∙◌}
-use mathlib.Core.List.{List, [], ◌++◌, append-nil, append_assoc}
-use Prim.Native.Nat.{ℕ, suc, ◌+◌, ◌-◌, ◌*◌, ◌/◌, ◌^◌, ◌<◌, ◌≤◌}
+use mathlib.Core.List.{List, [], ◌∷◌, ◌++◌, append-nil, append_assoc}
+use Prim.Native.Nat.{ℕ, ◌+◌, ◌-◌, ◌*◌, ◌/◌, ◌^◌, ◌<◌, ◌≤◌}
 use native.Mathlib.Nat.{mul-le-mul, mul-le-mul_left, mul-add, mul-zero, add-zero, lt_of_lt_of_le}
 use native.Mathlib.Omega.{arith}
 use borrow.Rule.Slice.PartMut.{mid_of, put_mid, same_len_mid}
 use lib.Dec.{lit<}
 use lib.Pow.{pow_mono, pow-add}
-use lib.ListN.{length, get_or, take, drop, length-append, length-drop, take-append-drop, drop_of_length-le}
-use lib.Seq.{length-take-le, take_all, take-add, take_at, drop_at, drop-drop}
+use lib.ListN.{length, take, drop, length-append, length-drop, take-append-drop, drop_of_length-le}
+use lib.Seq.{length-take-le, take_all, take-add, take_at, drop_at, drop-drop, drop-append_seam}
 use Rattle.lists.specs.Lists.{over}
 use Rattle.digits.specs.Digits.{number, digits, Below}
 use Rattle.digits.proofs.Places.{pow-mul, div-pow-add}
 use Rattle.digits.proofs.Below.{below-take, below-drop}
-use Rattle.digits.proofs.Number.{number_append, number_lt, number-from, number-drop}
+use Rattle.digits.proofs.Number.{number_append, number_lt, number-drop}
 use Rattle.digits.proofs.Digits.{length_digits, digits-joined}
 use Rattle.codes.specs.Packing.{bytes_per_vector, packed, spare}
 use Rattle.codes.proofs.Packing.{length-packed}
@@ -25,16 +25,14 @@ pub joined-lt : (w : ℕ) (codes : List ℕ) → w ≤ 8 → length codes ≤ 8 
 joined-lt w codes h k fit =
     lt_of_lt_of_le (number_lt (2 ^ w) codes fit) (rw (← pow-mul 2 w (length codes)) (pow_mono {i = w * length codes} {j = 64} (mul-le-mul h k)))
 
--- one code more, from above: `sum` is the number of the codes from i on
-module _ (w : ℕ) (codes : List ℕ) (base i sum : ℕ) (e : base ≡ 2 ^ w) (some : 0 < i) (most : i ≤ length codes) (inv : sum ≡ number (2 ^ w) (drop i codes)) where
-  pub joined-next : get_or codes (i - 1) 0 + base * sum ≡ number (2 ^ w) (drop (i - 1) codes)
-  joined-next =
-      let up : i ≡ suc (i - 1) = omega arith in
-      rw (e, inv) (ap (λ (k : ℕ). get_or codes (i - 1) 0 + 2 ^ w * number (2 ^ w) (drop k codes)) up ∙ sym (number-from (2 ^ w) (i - 1) codes (omega arith)))
-
-  pub joined-fits : w ≤ 8 → length codes ≤ 8 → Below (2 ^ w) codes → get_or codes (i - 1) 0 + base * sum < 2 ^ 64
-  joined-fits h k fit =
-      rw joined-next (joined-lt w (drop (i - 1) codes) h (rw (length-drop (i - 1) codes) (omega arith)) (below-drop (2 ^ w) (i - 1) codes fit))
+-- one code more, from above: `sum` is the number of the codes after those left in `rest`, and the last of them is next
+pub joined-fits : (w : ℕ) (codes rest less : List ℕ) (x base sum : ℕ) → rest ≡ less ++ x ∷ [] → base ≡ 2 ^ w → rest ++ drop (length rest) codes ≡ codes
+    → sum ≡ number (2 ^ w) (drop (length rest) codes) → w ≤ 8 → length codes ≤ 8 → Below (2 ^ w) codes → x + base * sum < 2 ^ 64
+joined-fits w codes rest less x base sum step e seam total h k fit =
+    let all : less ++ (x ∷ drop (length rest) codes) ≡ codes = sym (append_assoc less (x ∷ []) (drop (length rest) codes)) ∙ ap (λ (r : List ℕ). r ++ drop (length rest) codes) (sym step) ∙ seam in
+    let last : drop (length less) codes ≡ x ∷ drop (length rest) codes = ap (drop (length less)) (sym all) ∙ drop-append_seam less (x ∷ drop (length rest) codes) in
+    let value : number (2 ^ w) (drop (length less) codes) ≡ x + base * sum = rw (last, e, total) in
+    rw value at (joined-lt w (drop (length less) codes) h (rw (length-drop (length less) codes) (omega arith)) (below-drop (2 ^ w) (length less) codes fit))
 
 -- ---- codes whose bits fill n bytes, and more codes after them
 

@@ -45,21 +45,18 @@ fn joined(codes: &[u8], bits: u8) -> u64
 {
     let base = power(bits);
     let mut sum = 0u64;
-    for i in (0..codes.len()).rev() {
-        sum = u64::from(codes[i]) + base * sum;
+    for code in codes.iter().rev() {
+        sum = u64::from(*code) + base * sum;
     }
     sum
 }
 
-// A number over all of these bytes, its lowest byte first.
+// A number over all of these bytes, which are at most eight, its lowest byte first.
 fn put_number(bytes: &mut [u8], value: u64)
+    requires { length bytes.old ≤ 8 }
     ensures { bytes.new ≡ digits 256 (length bytes.old) value }
 {
-    let mut rest = value;
-    for byte in bytes.iter_mut() {
-        *byte = (rest % 256) as u8;
-        rest /= 256;
-    }
+    bytes.copy_from_slice(&value.to_le_bytes()[..bytes.len()]);
 }
 
 // Writes the codes as far as they come in eights: eight codes are one number of `bits` bytes.

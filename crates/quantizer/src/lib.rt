@@ -41,7 +41,7 @@ pub fn quantize(x: f32, bits: u8) -> u8
 fn rises(table: &[f32]) -> bool
     ensures { result ≡ true → Rises table.now }
 {
-    (1..table.len()).all(|i| table[i - 1] < table[i])
+    table.is_sorted_by(|a, b| *a < *b)
 }
 
 // Whether each code over so many boundaries fits a byte, and there is a place for each value.

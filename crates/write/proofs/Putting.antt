@@ -1,16 +1,11 @@
 -- Bytes put one after the other.
-use Rattle.std.proofs.Common.{◌≡◌, refl, sym, ap, ◌∙◌, Bool, true, false, cond, List, [], ◌∷◌, ◌++◌, ℕ, zero, suc, ◌+◌, ◌/◌, ◌%◌, ◌^◌, ◌≤◌, ◌<◌, arith, add-one, add-zero, length, take, drop, length-append}
+use Rattle.std.proofs.Common.{◌≡◌, refl, sym, ap, ◌∙◌, Bool, true, false, cond, List, [], ◌∷◌, ◌++◌, ℕ, zero, suc, ◌+◌, ◌≤◌, ◌<◌, arith, add-one, add-zero, length, take, drop, length-append}
 use mathlib.Core.Logic.{⊎_elim}
 use mathlib.Core.List.{append-nil}
 use native.Mathlib.Nat.{eq-or-lt_of_le, le_of_suc-le-suc}
 use lib.Seq.{length-sets, sets-eq}
-use Rattle.std.specs.Int.{w64, byte_at, bytes_low_first, to_le_bytes}
 use Rattle.lists.specs.Lists.{tab, joined}
 use Rattle.lists.proofs.Keep.{sets-append}
-use Rattle.digits.specs.Digits.{digits}
-use Rattle.digits.proofs.Places.{div-pow-zero, div-last}
-use Rattle.digits.proofs.Digits.{take-digits}
-use Rattle.index.specs.File.{le_bytes}
 use Rattle.index.proofs.Blocks.{joined-append}
 use Rattle.write.specs.declared.Writer.{Writer}
 use Rattle.write.specs.Put.{Room, Put}
@@ -44,22 +39,6 @@ put-copied bytes old h a e f =
 -- what is long enough for all is long enough for the first
 pub room-first : (ys zs : List ℕ) (w : Writer) → Room (ys ++ zs) w → Room ys w
 room-first ys zs w h = omega (arith, length-append ys zs)
-
--- ---- a number, its lowest byte first
-
-byte-at : (i n : ℕ) → byte_at i n ≡ n / 256 ^ i % 256
-byte-at zero n = rw (div-pow-zero 256 n)
-byte-at (suc i) n = refl
-
-low_bytes : (i k n : ℕ) → bytes_low_first i k n ≡ digits 256 k (n / 256 ^ i)
-low_bytes i zero n = refl
-low_bytes i (suc k) n = rw (byte-at i n, low_bytes (suc i) k n, div-last 256 n i)
-
--- the first bytes of a word
-pub le-bytes : (size n : ℕ) → size ≤ 8 → take size (to_le_bytes w64 n) ≡ le_bytes size n
-le-bytes size n few =
-    let all : to_le_bytes w64 n ≡ digits 256 8 n = low_bytes 0 8 n ∙ ap (digits 256 8) (div-pow-zero 256 n) in
-    ap (take size) all ∙ take-digits 256 size 8 n ∙ ap (λ (k : ℕ). digits 256 k n) (omega arith)
 
 -- ---- the pieces of the slots, one after the other
 

@@ -23,6 +23,9 @@ overflow_add-value c =
     (rest-fits c.args.bits c.args.codes.now c.args.block.now c.requires.codes c.requires.few (λ k. search rules)) in
     record { fits = sum }
 
+pub put_number-requires : goal.put_number-requires
+put_number-requires c = rest-bytes c.args.bits c.args.codes.now c.args.block.now c.requires.codes c.requires.few
+
 pub returns : goal.returns
 returns c =
     rest-written c.args.bits c.args.codes.now c.args.block.now c.requires.codes c.requires.few _ _

@@ -1,4 +1,4 @@
-use Rattle.write.proofs.Putting.{le-bytes}
+use Rattle.digits.proofs.Bytes.{le-bytes}
 use Rattle.write.proofs.Writer.put_number.Goals as goal
 
 pub put_bytes-requires : goal.put_bytes-requires
