@@ -3,6 +3,7 @@
 
 ghost use Rattle.std.specs.Prelude.{◌≡◌, [], ◌∷◌};
 ghost use Rattle.index.specs.Arrays.{lent};
+ghost use Rattle.index.specs.Lent.{contents};
 ghost use Rattle.index.specs.Step.{first_of};
 ghost use Rattle.index.specs.Read.{read_refusal};
 ghost use Rattle.words.specs.Exports.{left, reads};
@@ -11,31 +12,10 @@ use index::{Lent, LentMut};
 
 // The refusal where the record has no place: 01 asks for what the file says first.
 #[tactic(auto, unfolding(index::specs::Step::first_of))]
-fn without_place(
-    codes: &[u8],
-    scales: &[u32],
-    keys: &[u64],
-    keyed: &[bool],
-    held: &[u32],
-    alive: &[u8],
-    codes2: &[u8],
-    scales2: &[u32],
-    file: &[u8],
-) -> u8
-    ensures { result ≡ first_of (read_refusal file.now
-        (lent codes.now scales.now keys.now keyed.now held.now alive.now codes2.now scales2.now) ∷ 13 ∷ []) }
+fn without_place(arrays: &Lent<'_>, file: &[u8]) -> u8
+    ensures { result ≡ first_of (read_refusal file.now (contents arrays.now) ∷ 13 ∷ []) }
 {
-    let arrays = Lent {
-        codes,
-        scales,
-        keys,
-        keyed,
-        held,
-        alive,
-        codes2,
-        scales2,
-    };
-    match read::check(&arrays, file) {
+    match read::check(arrays, file) {
         Ok(()) => 13,
         Err(refusal) => u8::from(refusal),
     }
@@ -59,12 +39,6 @@ pub extern "C" fn vecq_raw_from_bytes(
         ≡ reads file.now fields.old
         (lent codes.old scales.old keys.old keyed.old held.old alive.old codes2.old scales2.old) }
 {
-    // nothing may have been written once the record turns out to have no place
-    if fields.len() < words::RECORD_WORDS {
-        return without_place(
-            codes, scales, keys, keyed, held, alive, codes2, scales2, file,
-        );
-    }
     let mut arrays = LentMut {
         codes,
         scales,
@@ -75,6 +49,10 @@ pub extern "C" fn vecq_raw_from_bytes(
         codes2,
         scales2,
     };
+    // Nothing may have been written once the record turns out to have no place.
+    if fields.len() < words::RECORD_WORDS {
+        return without_place(&arrays.view(), file);
+    }
     let read = read::from_bytes(&mut arrays, file);
     answer_words::put_made(read, fields)
 }
