@@ -1,9 +1,10 @@
 -- A loop that writes f 0, f 1, .. over the first places of an array: its invariant, and what it leaves.
 use mathlib.Core.Path.{◌≡◌, refl, ◌∙◌}
-use mathlib.Core.List.{List, map}
+use mathlib.Core.List.{List, map, ◌++◌}
 use Prim.Native.Nat.{ℕ, ◌+◌, ◌≤◌, ◌<◌}
 use native.Mathlib.Omega.{arith}
-use lib.ListN.{length, get_or, set, length-set}
+use lib.ListN.{length, get_or, set, take, drop, length-set}
+use lib.Seq.{length-take-le}
 use Rattle.lists.specs.Lists.{tab, over}
 use Rattle.lists.proofs.Laws.{get_d_default, length-tab, over-all, over-more}
 use Rattle.lists.proofs.Front.{tab-map}
@@ -27,6 +28,14 @@ module _ {A : Type 0} (f : ℕ → A) (n : ℕ) (old : List A) (room : n ≤ len
 -- where all places are written
 pub written-whole : {A : Type 0} (f : ℕ → A) (old : List A) {i : ℕ} {xs : List A} → Written f (length old) i old xs → length old ≤ i → xs ≡ tab f (length old)
 written-whole f old m l = written_all f (length old) old (omega arith) m l ∙ over-all (tab f (length old)) old (length-tab f (length old))
+
+-- where they are the first n places of more
+pub written-part : {A : Type 0} (f : ℕ → A) (n : ℕ) (old : List A) → n ≤ length old → {i : ℕ} {xs : List A} → Written f (length (take n old)) i (take n old) xs
+    → length (take n old) ≤ i → xs ++ drop n old ≡ over (tab f n) old
+unfolding over
+written-part f n old room {i} {xs} m l =
+    let few : length (take n old) ≡ n = length-take-le n old room in
+    rw (written-whole f (take n old) {i = i} {xs = xs} m l, few, length-tab f n)
 
 -- where the places are as many as the entries of a list, and f goes by the entries
 pub written-map : {A B : Type 0} (g : A → B) (d : A) (xs : List A) (old : List B) → length old ≡ length xs → {i : ℕ} {ys : List B} →

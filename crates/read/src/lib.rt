@@ -264,15 +264,14 @@ impl<'a> File<'a> {
         half::f16_bits_to_f32(little_endian::rd_u16(bytes))
     }
 
-    // By index: a write through iter_mut says nothing of the entries.
     fn read_scales(&self, scales: &mut [u32], bytes: &[u8], n: usize)
         requires { (n ≤ length scales.old) × (n ≤ 65536) }
         ensures { scales.new ≡ over (tab (λ i. scale_from self.now.form
             (little_endian self.now.form.scale (drop (i * self.now.form.scale) bytes.now))) n) scales.old }
     {
         let size = self.form.scale as usize;
-        for i in 0..n {
-            scales[i] = self.scale_from(little_endian::after(bytes, i * size));
+        for (i, scale) in scales[..n].iter_mut().enumerate() {
+            *scale = self.scale_from(little_endian::after(bytes, i * size));
         }
     }
 

@@ -144,9 +144,8 @@ fn read_run<T: Element + Copy>(field: &[u8], out: &mut [T]) -> Option<usize>
     ensures fits { IfSome result (λ n. n ≤ length out.old) }
 {
     let n = run_of(field, T::DIGITS, out.len())?;
-    // By index: a write through iter_mut says nothing of the elements.
-    for i in 0..n {
-        out[i] = T::of_number(number_in(field, T::DIGITS, i));
+    for (i, x) in out[..n].iter_mut().enumerate() {
+        *x = T::of_number(number_in(field, T::DIGITS, i));
     }
     Some(n)
 }
