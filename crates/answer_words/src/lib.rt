@@ -1,5 +1,5 @@
-// Answers as words of 64 bits, for C and Rust, where calls of several libraries have them: the eight fields of the record are the first eight words of one lent slice (crate
-// words), an answer of one word is the first of another.
+// Answers as words of 64 bits, for C and Rust, that several of the `.._exports` libraries give: the eight fields of the record are the first eight words
+// of one lent slice (crate words), an answer of one word is the first of another.
 #![tactic(auto)]
 
 ghost use Rattle.std.specs.Prelude.{◌≡◌, [], ◌∷◌, ◌≤◌, length};
@@ -55,7 +55,7 @@ pub fn put_count(counted: Result<usize, Refusal>, answer: &mut [u64]) -> u8
 {
     match counted {
         Ok(count) => put_word(count as u64, answer),
-        Err(uncounted) => u8::from(uncounted),
+        Err(refusal) => u8::from(refusal),
     }
 }
 
@@ -71,7 +71,7 @@ pub fn put_made(made: Result<Index, Refusal>, fields: &mut [u64]) -> u8
             }
             13
         }
-        Err(refused) => u8::from(refused),
+        Err(refusal) => u8::from(refusal),
     }
 }
 

@@ -106,7 +106,9 @@ fn with_kept(index: Index, kept: usize) -> Index
     }
 }
 
-// Gives the dead slots up of an index that fits. The arrays come one by one: some are read while others change.
+// Gives the dead slots up of an index that fits. The arrays come one by one, since some are read while others change: the borrow check does not cover a call that
+// is lent both kinds from behind one reference, as `live_slots(arrays.alive, n, arrays.held)`, nor one after `let LentMut { .. } = arrays`. Where all that a call is
+// lent may change, as in crates read and place, it does.
 fn close_up(
     index: Index,
     codes: &mut [u8],

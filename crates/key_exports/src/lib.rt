@@ -1,4 +1,5 @@
 // The questions about keys, for C and Rust. `fields` are the words of the record (crate words); the answer goes to the first places of `answer`.
+// Each call has a name of its own, for C.
 #![tactic(auto)]
 
 ghost use Rattle.std.specs.Prelude.{◌≡◌, [], ◌∷◌};

@@ -1,5 +1,5 @@
 -- The call of a key question: refused by the first test, or else what is asked of the value.
-use mathlib.Core.Path.{◌≡◌, sym, ap, ◌∙◌}
+use mathlib.Core.Path.{◌≡◌, sym, ap}
 use mathlib.Core.Bool.{Bool, true, false}
 use mathlib.Core.Option.{Option}
 use Prim.Native.Nat.{ℕ}
@@ -10,7 +10,8 @@ use Rattle.index.specs.State.{state_of}
 use Rattle.index.specs.Fit.{fit}
 use Rattle.index.specs.Step.{Op, key_of, contains, slot_of, refused, flag, maybe_slot, maybe_key, live_from, is_held, slot_holding, key_answer, answered, step}
 use Rattle.index.specs.Call.{call}
-use Rattle.index.specs.Answers.{result_of}
+use Rattle.index.specs.Verdict.{granted}
+use Rattle.index.specs.Answers.{result_of, asked}
 use Rattle.index.proofs.Calls.{call-misfit, call-answered}
 
 -- ---- the first test
@@ -25,9 +26,10 @@ module _ (x : Index) (a : Arrays) (e : fit x a ≡ true) where
   unfolding step
   key-asked i k f = sym (call-answered x a (key_of i) e (maybe_key k) (ap (λ (o : Option ℕ). answered (state_of x a) (maybe_key o)) f))
 
-  pub held-asked : (j : ℕ) (b : Bool) → is_held j (live_from 0 (state_of x a).slots) ≡ b → result_of x a (flag b) ≡ call x a (contains j)
+  pub held-asked : (j : ℕ) (b : Bool) → is_held j (live_from 0 (state_of x a).slots) ≡ b → result_of x a (asked (granted b)) ≡ call x a (contains j)
   unfolding step
-  held-asked j b f = sym (call-answered x a (contains j) e (flag b) (ap (λ (t : Bool). answered (state_of x a) (flag t)) f))
+  held-asked j true f = sym (call-answered x a (contains j) e (flag true) (ap (λ (t : Bool). answered (state_of x a) (flag t)) f))
+  held-asked j false f = sym (call-answered x a (contains j) e (flag false) (ap (λ (t : Bool). answered (state_of x a) (flag t)) f))
 
   pub slot-asked : (j p : ℕ) (i : Option ℕ) → slot_holding j p (live_from 0 (state_of x a).slots) ≡ i → result_of x a (maybe_slot i) ≡ call x a (slot_of j p)
   unfolding step

@@ -33,10 +33,7 @@ pub fn contains_key(index: Index, arrays: &Lent<'_>, key: u64) -> Result<bool, R
         result_of index a (asked (verdict result)) ≡ call index a (contains key) }
 {
     fit::check(index, arrays)?;
-    if 0 < held::held_count(arrays.keys, arrays.keyed, index.n, key) {
-        return Ok(true);
-    }
-    Ok(false)
+    Ok(0 < held::held_count(arrays.keys, arrays.keyed, index.n, key))
 }
 
 // The slot that holds a position of a key.

@@ -1,4 +1,5 @@
 // Making an index, for C and Rust. `fields` are the words of the record (crate words): the calls write them, and no other lent slice. With it the number of the raw signatures.
+// Each call has a name of its own, for C.
 #![tactic(auto)]
 
 ghost use Rattle.std.specs.Prelude.{◌≡◌, true, false, []};

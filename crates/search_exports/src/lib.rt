@@ -1,4 +1,5 @@
 // The three searches, for C and Rust. `fields` are the words of the record (crate words); how many hits goes to the first place of `answer`.
+// Each call has a name of its own, for C.
 #![tactic(auto)]
 
 ghost use Rattle.std.specs.Prelude.{◌≡◌, min, length};

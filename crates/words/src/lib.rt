@@ -1,4 +1,5 @@
 // The record as words of 64 bits, for C and Rust: its eight fields are the first eight words of a lent slice.
+// Where calls answer for C (crates answer_words and `.._exports`) 13, the number of `Misfit`, stands as C gets it.
 #![tactic(auto)]
 
 ghost use Rattle.std.specs.Prelude.{◌≡◌};

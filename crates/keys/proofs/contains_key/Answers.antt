@@ -1,8 +1,6 @@
 use Rattle.std.proofs.Common.{rules, ◌≡◌, Err}
 use mathlib.Core.Path.{sym, ap, ◌∙◌}
-use mathlib.Core.Bool.{true, false}
 use lib.Dec.{ltb}
-use borrow.Author.Tests.{lt-ltb, le-ltb}
 use Rattle.held.proofs.Value.{is-held}
 use Rattle.keys.proofs.Questions.{misfits, held-asked}
 use Rattle.keys.proofs.contains_key.Goals as goal
@@ -12,12 +10,7 @@ returns-in_err-check c =
     let k : c.from_residual.result ≡ Err c.in_err-check.field-0.0 = search rules in
     rw (k, c.in_err-check.ensures.1) (misfits _ _ c.in_err-check.ensures.0 _)
 
-pub returns-then-held_count-gt0 : goal.returns-then-held_count-gt0
-returns-then-held_count-gt0 c =
-    let e = c.in_ok-check.ensures in
-    held-asked _ _ e _ true (is-held _ _ e _ ∙ ap (ltb 0) (sym c.held_count.ensures) ∙ lt-ltb 0 _ c.if-held_count-gt0.true)
-
 pub returns : goal.returns
 returns c =
     let e = c.in_ok-check.ensures in
-    held-asked _ _ e _ false (is-held _ _ e _ ∙ ap (ltb 0) (sym c.held_count.ensures) ∙ le-ltb 0 _ c.if-held_count-gt0.false)
+    held-asked _ _ e _ _ (is-held _ _ e _ ∙ ap (ltb 0) (sym c.held_count.ensures))
