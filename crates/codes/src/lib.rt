@@ -71,7 +71,7 @@ fn has_block(n: usize, slot: usize, bytes: usize) -> bool
     bytes == 0 || slot < n / bytes
 }
 
-// The block of a slot, uncopied; an empty part where the array does not have it whole.
+// The block of a slot, uncopied; an empty part where the array does not have it whole. Document 01 names this form.
 pub fn slot_codes(codes: &[u8], slot: usize, bytes: usize) -> &[u8]
     ensures { result.now ≡ block_at bytes slot codes.now }
 {

@@ -1,5 +1,5 @@
 // Halves: binary32 patterns written as binary16 patterns, and these read as binary32 patterns. No float takes part, since a float here has one NaN
-// only, and a NaN's sign and fraction are to be kept.
+// only, and a NaN's sign and fraction are to be kept. Document 01 names the forms: leading zeros to read, an i32 exponent to write.
 #![tactic(auto)]
 
 ghost use Rattle.std.specs.Prelude.{◌≡◌, ◌^◌, ◌<◌};

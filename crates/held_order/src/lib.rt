@@ -7,7 +7,7 @@ ghost use Rattle.lists.specs.Lists.{tab, below};
 ghost use Rattle.held_order.specs.Restored.{rising_position, restored};
 ghost use Rattle.held_order.specs.Placed.{after_entry, Placed};
 
-// The slots themselves, as a list.
+// The slots themselves, as a list. That they are at most 65,536 is a clause here and below: a struct of the slice and a ghost field would be longer.
 fn number(held: &mut [u32])
     requires { length held.old ≤ 65536 }
     ensures { held.new ≡ below (length held.old) }

@@ -62,7 +62,8 @@ fn is_marked(marks: &[u8], slot: usize) -> bool
     slot < marks.len() && 0 < marks[slot]
 }
 
-// The scores of the marked slots below n under a prepared query, each in its slot's place.
+// The scores of the marked slots below n under a prepared query, each in its slot's place. The range of the width and the length of `all` are clauses here and below:
+// an index that is lent by C has no ghost field, and a struct around it, or around `all`, would be longer.
 fn score_slots(
     index: Index,
     arrays: &Lent<'_>,

@@ -45,7 +45,8 @@ fn wide_step(mut acc: [f32; 4], term: f32, i: usize) -> [f32; 4]
 }
 
 impl<'a> Block<'a> {
-    // What byte i of a block of 4 bits a code adds: the low code's product and the high code's.
+    // What byte i of a block of 4 bits a code adds: the low code's product and the high code's. The width is a clause here and below: a second struct, of a block
+    // whose `bits` is 4, would be longer.
     fn byte_term(&self, i: usize) -> f32
         requires width { self.now.bits ≡ 4 }
         requires inside { i < length self.now.query.now / 2 }

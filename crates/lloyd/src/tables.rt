@@ -1,4 +1,4 @@
-// The six tables of lloyd.rs. What each constant stands for is proved where `centroids` and `boundaries` hand the tables out.
+// The six tables of lloyd.rs, as constants: document 01 names this form. What each constant stands for is proved where `centroids` and `boundaries` hand the tables out.
 
 pub const CENTROIDS_4BIT: [f32; 16] = [
     -1.996_112, -1.512_225, -1.172_563, -0.887_568, -0.632_509, -0.395_530, -0.169_891, 0.049_892,

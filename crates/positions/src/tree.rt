@@ -1,4 +1,5 @@
-// Whether positions are in order, by a tree in which the keyed slots are entered. The slot that holds a position of a key is found there in a few steps, and in at most 64
+// Whether positions are in order, by a tree in which the keyed slots are entered. The tree is an array of slots, and its branches are places in it, since there is
+// no heap. The slot that holds a position of a key is found there in a few steps, and in at most 64
 // whatever the keys are.
 ghost use Rattle.std.specs.Prelude.{◌≡◌, ℕ, suc, ◌+◌, ◌-◌, ◌*◌, ◌^◌, ◌≤◌, ◌<◌, length, get_or};
 ghost use Rattle.positions.specs.Decides.{Decides};
@@ -26,6 +27,7 @@ fn branch_of(entry: u32, roots: usize, bits: u64) -> usize
 }
 
 // The tree is lent beside its number of roots: a struct of both would still have to say at each call which slots have been entered by then, as `Grown` does here.
+// So its length is a clause too.
 impl HeldKeys<'_> {
     // Whether a walk goes on from a place: a slot stands there that holds something else.
     fn passes(&self, tree: &[u32], place: usize, key: u64, position: u32) -> bool
@@ -77,7 +79,8 @@ impl HeldKeys<'_> {
         true
     }
 
-    // Enters all slots, up to one that fails. By a for: each slot changes the tree, which the test of `all` could not be lent.
+    // Enters all slots, up to one that fails. By a for: in `all` the closure would change the tree that it captures; of a for the invariant says what the tree is
+    // after each slot.
     fn enter_all(&self, tree: &mut [u32], roots: usize) -> bool
         requires room { roots + 2 * self.now.n ≤ length tree.old }
         requires grown { Grown (keys_of self.now) roots 0 tree.old }

@@ -254,7 +254,8 @@ impl<'a> Tabled<'a> {
         &self.of.codes[from..from + self.of.size]
     }
 
-    // The sums of `many` slots from `first` on at 4 bits, as far as they are marked.
+    // The sums of `many` slots from `first` on at 4 bits, as far as they are marked. That these slots are in use is a clause here and below: a struct of the two
+    // numbers with a ghost field would be longer.
     fn sum_bytes(&self, first: usize, many: usize, sums: &mut [f32])
         requires width { self.now.of.bits ≡ 4 }
         requires arrays { (first + many ≤ self.now.of.n) × (many * 8 ≤ length sums.old) }
@@ -377,7 +378,7 @@ impl<'a> Tabled<'a> {
         }
     }
 
-    // All slots, in groups.
+    // All slots, in groups. That `all` has their places is a clause here and below: `all` is written, and a struct of it with a ghost field would be longer.
     fn scan_groups(&self, sums: &mut [f32], all: &mut [f32])
         requires { (self.now.of.n ≤ length all.old) × (2048 ≤ length sums.old) }
         ensures { Rescored (score_now (score_by self.now.of.bits self.now.evens.now self.now.odds.now self.now.pairs.now
@@ -490,7 +491,7 @@ impl<'a> Stage<'a> {
 }
 
 // The scores of a stage of the marked slots below n, each in its slot's place; for a second stage they are added to what stands there. Where there
-// are fewer places than slots, nothing is written. The parameters come one by one: its caller has each of them from elsewhere.
+// are fewer places than slots, nothing is written. The parameters come one by one: `Stage`, which is made from them first thing, is private.
 pub fn stage_scores(
     bits: u8,
     centroids: &[f32],

@@ -39,6 +39,7 @@ fn chosen_order(orders: &[u32], place: u32) -> u32 {
 }
 
 // A number that n order numbers are likely to reach, and not many more: at least 1, which all slots that take part reach.
+// At most 65,536 orders: a clause here and below, since a struct of the slice and a ghost field would be longer.
 fn guess(orders: &[u32], n: usize) -> u32
     requires { (length orders.now ≤ 65536) × (n ≤ 65536) }
     ensures { 0 < result }

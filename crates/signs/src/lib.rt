@@ -8,6 +8,7 @@ ghost use Rattle.signs.specs.Signs.{start, next_state, output, sign};
 const BASE: u64 = 0x1_0000_0000;
 
 // a * b modulo 2^64, from the products of their halves. The product of the two high halves is left out: it counts for a multiple of 2^64.
+// Document 01 names this form.
 #[tactic(auto, using(crate::proofs::Product::from_halves))]
 fn wrapping_mul(a: u64, b: u64) -> u64
     ensures { result ≡ a * b % 2 ^ 64 }

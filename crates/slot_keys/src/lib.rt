@@ -1,5 +1,6 @@
 // The key of one slot.
-// An entry past the end of its array counts as none: no key, word 0.
+// An entry past the end of its array counts as none: no key, word 0. `keys` and `keyed` go as two slices, not as a struct: C lends them apart, and relabel changes the
+// one while it reads the other.
 #![tactic(auto)]
 
 ghost use Rattle.std.specs.Prelude.{◌≡◌, false, get_or};

@@ -87,6 +87,7 @@ fn root_bits(b: u32) -> u32
 }
 
 // The square root of x: the nearest binary32 where x is finite and above 0; x itself where it is a zero or the infinity; else the NaN.
+// By the program itself: document 01 names this form.
 pub fn sqrt(x: f32) -> f32
     ensures { SquareRoot x result }
 {
