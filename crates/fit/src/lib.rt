@@ -17,28 +17,10 @@ use refusal::Refusal;
 fn fields_fit(index: Index) -> bool
     ensures { Decides result (Fields index) }
 {
-    if index.dim < 1 {
-        return false;
-    }
-    if 4096 < index.dim {
-        return false;
-    }
-    if index.working_dim < 1 {
-        return false;
-    }
-    if index.dim < index.working_dim {
-        return false;
-    }
-    if index.bits < 4 {
-        return false;
-    }
-    if 6 < index.bits {
-        return false;
-    }
-    if index.residual {
-        return index.bits == 4;
-    }
-    true
+    (1..=4096).contains(&index.dim)
+        && (1..=index.dim).contains(&index.working_dim)
+        && (4..=6).contains(&index.bits)
+        && (!index.residual || index.bits == 4)
 }
 
 // ---- marks

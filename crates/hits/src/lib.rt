@@ -38,19 +38,13 @@ impl From<Unlisted> for Refusal {
 
 // ---- whether the call can be made
 
+#[tactic(auto, unfolding(crate::specs::Hits::ready))]
 fn is_ready(index: Index, entries: usize) -> bool
     ensures { result ≡ ready index.n index.bits index.working_dim entries }
 {
-    if 65536 < index.n {
-        return false;
-    }
-    if index.bits < 4 {
-        return false;
-    }
-    if 6 < index.bits {
-        return false;
-    }
-    padding::is_rotatable(index.working_dim, entries, 4096)
+    index.n <= 65536
+        && (4..=6).contains(&index.bits)
+        && padding::is_rotatable(index.working_dim, entries, 4096)
 }
 
 // ---- the working arrays

@@ -27,7 +27,7 @@ fn make(
     ensures { let a = contents arrays.now in
         Make.begun (verdict result) a ≡ Make.make (Make.new_header dim working_dim seed residual) a }
 {
-    if !((1 <= dim) & (dim <= 4096) & ((1 <= working_dim) & (working_dim <= dim))) {
+    if !((1..=4096).contains(&dim) & (1..=dim).contains(&working_dim)) {
         return Err(Refusal::Dims);
     }
     let index = Index {

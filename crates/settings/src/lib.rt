@@ -16,7 +16,7 @@ pub fn set_bits(index: Index, arrays: &Lent<'_>, bits: u8) -> Result<Index, Refu
     ensures { let a = contents arrays.now in made index (verdict result) a ≡ call index a (set_bits bits) }
 {
     fit::check(index, arrays)?;
-    if !((4 <= bits) & (bits <= 6)) {
+    if !(4..=6).contains(&bits) {
         return Err(Refusal::Width);
     }
     if 0 < index.n {

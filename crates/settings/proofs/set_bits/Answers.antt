@@ -1,4 +1,4 @@
-use Rattle.std.proofs.Common.{rules, ◌≡◌, Err, arith, sym}
+use Rattle.std.proofs.Common.{rules, tests, ◌≡◌, Err, arith, sym}
 use Rattle.index.proofs.Calls.{call-misfit}
 use Rattle.settings.proofs.Setting.{width-5, width-6, width-7, width-set}
 use Rattle.settings.proofs.set_bits.Goals as goal
@@ -9,14 +9,14 @@ returns-in_err-check c =
     let misfit = c.in_err-check.ensures in
     rw (k, misfit.1) (sym (call-misfit _ _ _ misfit.0))
 
-pub returns-then-not-bits : goal.returns-then-not-bits
-returns-then-not-bits c = sym (width-5 _ _ c.in_ok-check.ensures _ c.if-not-bits.true)
+pub returns-then-not-contains : goal.returns-then-not-contains
+returns-then-not-contains c = sym (width-5 _ _ c.in_ok-check.ensures _ (search (rules, tests)))
 
 pub returns-then-index-gt0 : goal.returns-then-index-gt0
-returns-then-index-gt0 c = sym (width-6 _ _ c.in_ok-check.ensures _ c.if-not-bits.false c.if-index-gt0.true)
+returns-then-index-gt0 c = sym (width-6 _ _ c.in_ok-check.ensures _ (search (rules, tests)) c.if-index-gt0.true)
 
 pub returns-then-index-bits : goal.returns-then-index-bits
-returns-then-index-bits c = sym (width-7 _ _ c.in_ok-check.ensures _ c.if-not-bits.false (omega arith) c.if-index-bits.true)
+returns-then-index-bits c = sym (width-7 _ _ c.in_ok-check.ensures _ (search (rules, tests)) (omega arith) c.if-index-bits.true)
 
 pub returns : goal.returns
-returns c = sym (width-set _ _ c.in_ok-check.ensures _ c.if-not-bits.false (omega arith) c.if-index-bits.false)
+returns c = sym (width-set _ _ c.in_ok-check.ensures _ (search (rules, tests)) (omega arith) c.if-index-bits.false)
