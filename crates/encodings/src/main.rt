@@ -50,6 +50,7 @@ fn run<R: Read>(lines: &mut Lines<'_, R>, out: &mut [u8]) {
     }
 }
 
+// `leaves` has the same: crate print has the byte, and where an answer begins in `out` is the programs' to say.
 fn put_unreadable(out: &mut [u8]) -> usize {
     print::put_byte(out, 0, print::UNREADABLE)
 }
@@ -266,7 +267,7 @@ fn score_by_width(width: u8, q: &[f32], scale: u32, block: &[u8]) -> Scored {
     scoring::score(width, &centroids[..n], q, scale, block)
 }
 
-// A line of `score2`: two stages, and then the query.
+// A line of `score2`: two stages, and then the query. A function beside `score`, as crate scoring has one for each: a second stage needs places for its block.
 fn score2(line: &[u8]) -> Option<Scored> {
     let width = width_at(line, 1)?;
     let mut q = [0.0f32; 4096];

@@ -61,6 +61,7 @@ fn find_slot(
 }
 
 // The slot that holds the position of the key, the first one where there are several; n where there is none. By parts, as in `held_count`.
+// A number and no `Option`, as in the specification, whose laws of the slot (proofs/Value.antt) compare it with n; `add_keyed` writes just slot n where there is none.
 pub fn held_slot(
     keys: &[u64],
     keyed: &[bool],

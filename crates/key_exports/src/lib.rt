@@ -45,6 +45,7 @@ fn put_asked(asked: Result<bool, Refusal>, answer: &mut [u64]) -> u8
     }
 }
 
+// As `put_keyed`; the specification has an answer for keys (`key_is`) and another for slots.
 fn put_held(held: Result<Option<usize>, Refusal>, answer: &mut [u64]) -> u8
     ensures { put result answer.new ≡ put_answer (held_is (verdict held)) answer.old }
 {

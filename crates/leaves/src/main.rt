@@ -49,6 +49,7 @@ fn run<R: Read>(lines: &mut Lines<'_, R>, out: &mut [u8]) {
     }
 }
 
+// As in `encodings`.
 fn put_unreadable(out: &mut [u8]) -> usize {
     print::put_byte(out, 0, print::UNREADABLE)
 }

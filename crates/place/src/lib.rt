@@ -55,7 +55,7 @@ fn spot_of(adding: Adding, arrays: &Lent<'_>, n: usize) -> Spot
 
 // ---- one slot's places
 
-// What fixes how a vector is coded. Both structs are of other crates, so that no From can stand here.
+// What fixes how a vector is coded. A function here and no `From` in crate index: it forgets the counts of the record, and adding is its one user.
 fn header_of(index: Index) -> Header
     ensures { result ≡ header_of index }
 {
