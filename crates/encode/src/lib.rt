@@ -44,7 +44,8 @@ fn is_codable(bits: u8, boundaries: usize, codes: usize, block: usize) -> bool
     codes <= 4096 && block == codes::bytes_per_vector(codes, bits)
 }
 
-// The centroid of each code.
+// The centroid of each code. One of the two slices goes by index, here and in `subtract`: where iter_mut() is zipped, nothing is known after the loop of the entries
+// that were written.
 fn decode(centroids: &[f32], codes: &[u8], out: &mut [f32])
     requires { length out.old ≡ length codes.now }
     ensures { out.new ≡ decoded centroids.now codes.now }

@@ -37,8 +37,8 @@ fn each_fits(keyed: &[bool], alive: &[u8]) -> bool
     ensures { Decides result (EachMarked keyed.now alive.now (length keyed.now)) }
 {
     let mut all = true;
-    for i in 0..keyed.len() {
-        all = all & mark_fits(keyed[i], marks::live_mark(alive, i));
+    for (i, on) in keyed.iter().enumerate() {
+        all = all & mark_fits(*on, marks::live_mark(alive, i));
     }
     all
 }

@@ -60,6 +60,7 @@ fn put_number(bytes: &mut [u8], value: u64)
 }
 
 // Writes the codes as far as they come in eights: eight codes are one number of `bits` bytes.
+// By index: where chunks_exact_mut() is zipped with other chunks, nothing is known after the loop of what was written.
 // `Packable` stays a clause, here and below: a struct with it as a ghost field would hold the block, which is written, and be made anew for each part.
 fn put_eights_at(block: &mut [u8], codes: &[u8], bits: u8)
     requires { Packable bits codes.now (length block.old) }

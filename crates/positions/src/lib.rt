@@ -46,8 +46,8 @@ impl<'a> HeldKeys<'a> {
         ensures { Decides result (AllFirst self.now.held.now self.now.n) }
     {
         let mut all = true;
-        for slot in 0..self.n {
-            all &= self.held[slot] == 0;
+        for position in &self.held[..self.n] {
+            all &= *position == 0;
         }
         all
     }
@@ -57,8 +57,8 @@ impl<'a> HeldKeys<'a> {
         ensures { Decides result (NoneKeyed self.now.keyed.now self.now.n) }
     {
         let mut none = true;
-        for slot in 0..self.n {
-            none &= !self.keyed[slot];
+        for keyed in &self.keyed[..self.n] {
+            none &= !*keyed;
         }
         none
     }

@@ -13,9 +13,9 @@ fn write_signed(v: &[f32], seed: u64, out: &mut [f32])
     ensures { out.new ≡ signed (length out.old) seed v.now }
 {
     let mut stream = SignStream::new(seed);
-    for i in 0..out.len() {
+    for (i, x) in out.iter_mut().enumerate() {
         let next = stream.next_sign();
-        out[i] = v.get(i).copied().unwrap_or(0.0) * next.sign;
+        *x = v.get(i).copied().unwrap_or(0.0) * next.sign;
         stream = next.stream;
     }
 }

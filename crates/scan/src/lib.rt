@@ -61,6 +61,7 @@ struct Two {
 // ---- the tables
 
 // For each number x of two codes the centroid of the low one, in place 2 * x, and that of the high one, in the place after it.
+// By index: a turn writes two places, here and in `halve`. Of what chunks_exact_mut() lends, or a zipped iter_mut(), nothing is known after the loop.
 fn fill_pairs(bits: u8, centroids: &[f32], pairs: &mut [f32])
     requires { (bits ≤ 6) × (length centroids.now ≡ 2 ^ bits) × (2 ^ bits * 2 ^ bits * 2 ≤ length pairs.old) }
     ensures { Paired bits centroids.now pairs.new (2 ^ bits * 2 ^ bits) }
