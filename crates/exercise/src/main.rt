@@ -325,12 +325,17 @@ impl Command {
         }
     }
 
-    // How many numbers a line of the command has.
+    // How many numbers a line of the command has; 0 too where `request_of` reads the line in another way.
     fn number_count(self) -> usize
         ensures { result ≤ 3 }
     {
         match self {
-            Command::Dump
+            Command::Silent
+            | Command::Unreadable
+            | Command::Lend
+            | Command::Set(_)
+            | Command::Field(_)
+            | Command::Dump
             | Command::Enable
             | Command::Compact
             | Command::Add
@@ -351,7 +356,7 @@ impl Command {
             | Command::SlotAt
             | Command::Search
             | Command::SearchKeyed => 2,
-            _ => 3,
+            Command::Working | Command::SearchCascade => 3,
         }
     }
 
@@ -377,13 +382,13 @@ impl Command {
         self.number_count() + 1
     }
 
-    // Which of the numbers says how many places are lent; 0 where none does.
-    fn places_number(self) -> usize {
+    // Which of the numbers says how many places are lent.
+    fn places_number(self) -> Option<usize> {
         match self {
-            Command::Write => 1,
-            Command::Search | Command::SearchKeyed => 2,
-            Command::SearchCascade => 3,
-            _ => 0,
+            Command::Write => Some(1),
+            Command::Search | Command::SearchKeyed => Some(2),
+            Command::SearchCascade => Some(3),
+            _ => None,
         }
     }
 
@@ -392,7 +397,7 @@ impl Command {
         if self == Command::Bits {
             return 0xFF;
         }
-        if i != self.places_number() {
+        if self.places_number() != Some(i) {
             return u64::MAX;
         }
         if self == Command::Write { 65536 } else { 4096 }
@@ -568,12 +573,13 @@ enum Done {
     Slot(Result<Added, Refusal>),
 }
 
-// The calls that change the arrays; no other line does. They all start here, since to prove that arrays are passed on to be changed takes longest.
+// The calls that change the arrays; no other line does. Only this function passes the arrays on to be changed, the others lend them to be read: the check takes
+// longest where they may change.
 fn change(call: Call, vector: &[f32], file: &[u8], arrays: &mut LentMut<'_>, index: Index) -> Done {
     match call.command {
         Command::Set(array) => Done::Element(set_element(arrays, array, call.a as usize, call.b)),
         Command::Compact => Done::Record(compact::compact(index, arrays)),
-        Command::Relabel | Command::Remove | Command::RemoveAt => Done::Marks(change_marks(
+        Command::Relabel | Command::Remove | Command::RemoveAt => change_marks(
             call,
             arrays.codes,
             arrays.scales,
@@ -584,7 +590,7 @@ fn change(call: Call, vector: &[f32], file: &[u8], arrays: &mut LentMut<'_>, ind
             arrays.codes2,
             arrays.scales2,
             index,
-        )),
+        ),
         Command::Add => Done::Slot(add::add(index, arrays, vector)),
         Command::AddKeyed => Done::Slot(add_keyed::add_keyed(index, arrays, call.a, vector)),
         Command::AddMulti => Done::Slot(add_multi::add_keyed_multi(index, arrays, call.a, vector)),
@@ -593,7 +599,8 @@ fn change(call: Call, vector: &[f32], file: &[u8], arrays: &mut LentMut<'_>, ind
     }
 }
 
-// Relabelling and the removals, which leave codes and scales alone. The arrays come one by one, since these calls read some and change others.
+// Relabelling and the removals, which leave codes and scales alone. The arrays come one by one, since these calls read some and change others: the borrow check
+// does not cover a call that is lent both kinds from behind one reference, as fields of `arrays`, nor one after `let LentMut { .. } = arrays`.
 fn change_marks(
     call: Call,
     codes: &mut [u8],
@@ -605,15 +612,15 @@ fn change_marks(
     codes2: &mut [u8],
     scales2: &mut [u32],
     index: Index,
-) -> Result<Option<Index>, Refusal> {
+) -> Done {
     match call.command {
-        Command::Relabel => relabel::relabel(
+        Command::Relabel => Done::Marks(relabel::relabel(
             index, codes, scales, keys, keyed, held, alive, codes2, scales2, call.a, call.b,
-        ),
-        Command::Remove => removal::remove_keyed(
+        )),
+        Command::Remove => Done::Marks(removal::remove_keyed(
             index, codes, scales, keys, keyed, held, alive, codes2, scales2, call.a,
-        ),
-        _ => removal::remove_keyed_at(
+        )),
+        Command::RemoveAt => Done::Marks(removal::remove_keyed_at(
             index,
             codes,
             scales,
@@ -625,7 +632,8 @@ fn change_marks(
             scales2,
             call.a,
             call.b as usize,
-        ),
+        )),
+        _ => Done::Nothing,
     }
 }
 
@@ -643,6 +651,7 @@ fn set_element(arrays: &mut LentMut<'_>, array: Array, i: usize, x: u64) -> bool
     }
 }
 
+// A trait of its own, since `bool` is no `TryFrom<u64>`.
 trait Element: Copy {
     // The element that stands for the number, where there is one.
     fn of_number(x: u64) -> Option<Self>;
@@ -725,8 +734,16 @@ fn answer(
 // The calls that are answered in a word or two and only read the arrays. Any other line says what it did.
 fn ask(call: Call, done: Done, vector: &[f32], arrays: &Lent<'_>, index: Index) -> Outcome {
     match call.command {
-        Command::New | Command::Working | Command::Residual | Command::Bits | Command::Enable =>
-            after_made(make_or_set(call, arrays, index), index),
+        Command::New => after_made(make::new(call.a as usize, call.b, arrays), index),
+        Command::Working => after_made(
+            make::with_working_dim(call.a as usize, call.b as usize, call.c, arrays),
+            index,
+        ),
+        Command::Residual => {
+            after_made(make::with_residual(call.a as usize, call.b, arrays), index)
+        }
+        Command::Bits => after_made(settings::set_bits(index, arrays, low_byte(call.a)), index),
+        Command::Enable => after_made(settings::enable_cascade(index, arrays), index),
         Command::KeyOf => Outcome {
             index,
             reply: of_key(keys::key_of(index, arrays, call.a as usize)),
@@ -751,27 +768,11 @@ fn ask(call: Call, done: Done, vector: &[f32], arrays: &Lent<'_>, index: Index) 
     }
 }
 
-// The calls that make or set a record, and only read the arrays.
-fn make_or_set(call: Call, arrays: &Lent<'_>, index: Index) -> Result<Index, Refusal> {
-    if call.command == Command::New {
-        return make::new(call.a as usize, call.b, arrays);
-    }
-    if call.command == Command::Working {
-        return make::with_working_dim(call.a as usize, call.b as usize, call.c, arrays);
-    }
-    if call.command == Command::Residual {
-        return make::with_residual(call.a as usize, call.b, arrays);
-    }
-    if call.command == Command::Bits {
-        return settings::set_bits(index, arrays, low_byte(call.a));
-    }
-    settings::enable_cascade(index, arrays)
-}
-
 fn low_byte(n: u64) -> u8 {
     (n % 256) as u8
 }
 
+// Functions by name and no `From`: by their types alone, `u64` and `usize`, a key and a slot, or a slot and a length, are hard to tell apart.
 fn of_key(key: Result<Option<u64>, Refusal>) -> Reply {
     match key {
         Ok(Some(k)) => Reply::Key(k),
@@ -882,6 +883,7 @@ fn search_slots(
     put_slots(out, found, slots, scores)
 }
 
+// As `list_slots`, but its places are for keys, of another type, which no other search writes.
 fn list_keys(call: Call, vector: &[f32], out: &mut [u8], arrays: &Lent<'_>, index: Index) -> usize {
     let mut names = [KEY_MARK; 4096];
     let mut scores = [SCORE_MARK; 4096];
@@ -1110,16 +1112,8 @@ fn put_spilt(out: &mut [u8], kept: bool) -> usize {
 }
 
 // Whether the places from n on hold their mark.
-fn numbers_kept(xs: &[u64], n: usize, mark: u64) -> bool {
+fn kept<T: PartialEq + Copy>(xs: &[T], n: usize, mark: T) -> bool {
     xs.iter().skip(n).all(|x| *x == mark)
-}
-
-fn scores_kept(xs: &[f32], n: usize) -> bool {
-    xs.iter().skip(n).all(|x| *x == SCORE_MARK)
-}
-
-fn bytes_kept(xs: &[u8], n: usize) -> bool {
-    xs.iter().skip(n).all(|x| *x == BYTE_MARK)
 }
 
 fn put_hit(out: &mut [u8], at: usize, number: u64, score: f32) -> usize {
@@ -1147,7 +1141,7 @@ fn put_found(
     let taken = found.unwrap_or(0);
     let at = put_spilt(
         out,
-        numbers_kept(numbers, taken, mark) && scores_kept(scores, taken),
+        kept(numbers, taken, mark) && kept(scores, taken, SCORE_MARK),
     );
     match found {
         Ok(n) => put_hits(out, at, numbers, scores, n),
@@ -1158,12 +1152,12 @@ fn put_found(
 fn put_file(out: &mut [u8], written: Result<usize, Refusal>, file: &[u8]) -> usize {
     match written {
         Ok(n) => {
-            let at = put_spilt(out, bytes_kept(file, n));
+            let at = put_spilt(out, kept(file, n, BYTE_MARK));
             let next = print::put_bytes(out, at, b"bytes ");
             runs::put_run(out, next, &file[..n.min(file.len())])
         }
         Err(refusal) => {
-            let at = put_spilt(out, bytes_kept(file, 0));
+            let at = put_spilt(out, kept(file, 0, BYTE_MARK));
             put_refused(out, at, u8::from(refusal))
         }
     }
