@@ -46,7 +46,7 @@ pub fn slot_at(
     ensures { let a = contents arrays.now in
         result_of index a (held_is (verdict result)) ≡ call index a (slot_of key position) }
 {
-    fit::check(index, arrays)?; // 13
+    fit::check(index, arrays)?;
     let slot = held::held_slot(
         arrays.keys,
         arrays.keyed,
