@@ -191,8 +191,8 @@ fn write_scores(all: &[f32], slots: &[u32], scores: &mut [f32])
     requires room { length slots.now ≤ length scores.old }
     ensures { scores.new ≡ over (map (λ i. get_or all.now i +0) slots.now) scores.old }
 {
-    for i in 0..slots.len() {
-        scores[i] = all[slots[i] as usize];
+    for (i, slot) in slots.iter().enumerate() {
+        scores[i] = all[*slot as usize];
     }
 }
 
@@ -208,7 +208,7 @@ fn write_hits(all: &[f32], orders: &[u32], k: usize, slots: &mut [u32], scores: 
     n
 }
 
-// Whether one of the slots below n takes part.
+// Whether one of the slots below n takes part. By a for: of `any` the proof would have to say first what the list of slots is, and what the test says of each.
 fn is_any_marked(marks: &[u8], n: usize) -> bool
     ensures { result ≡ any_takes_part marks.now n }
 {
