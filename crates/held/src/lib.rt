@@ -21,7 +21,7 @@ fn holds_position(
         && held.get(slot).copied().unwrap_or(0) as usize == position
 }
 
-// How many slots the key has, each index being tested.
+// How many slots the key has, each index being tested. A loop: as filter().count() it was tried, and the check did not find that the count is that of the slots.
 fn count_slots(keys: &[u64], keyed: &[bool], n: usize, key: u64) -> usize
     ensures { result ≡ held_count keys.now keyed.now n key }
 {

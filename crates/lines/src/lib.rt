@@ -142,7 +142,8 @@ fn handed(buf: &[u8], long: bool, from: usize, to: usize) -> Result<Span, TooLon
     }
 }
 
-// The place of the first newline in the part.
+// The place of the first newline in the part. By index: so the check finds the proof alone; of `position` it would have to be said what the test says of each
+// byte, and `part.from` added to each place.
 fn newline(buf: &[u8], part: Span) -> Option<usize>
     requires { Within (length buf.now) part }
     ensures { MatchOption result (NoNewline buf.now part.from part.to)
