@@ -23,6 +23,7 @@ ghost use Rattle.std.specs.Prelude.{◌≤◌, ◌<◌, length, IfSome, IfOk};
 
 use encode::{Header, Scales};
 use lines::{Lines, TooLong};
+use print::Printer;
 use refusal::Refusal;
 use score::Scored;
 use std::io::Read;
@@ -33,36 +34,32 @@ fn main(rt: HostRuntime) {
     let mut buf = [0u8; 140001];
     // Long enough for the longest answer, that of `prepare`: 4,097 times 8 digits, a blank and a newline.
     let mut out = [0u8; 40000];
-    run(&mut Lines::new(&mut reader, &mut buf), &mut out);
+    run(
+        &mut Lines::new(&mut reader, &mut buf),
+        &mut Printer::new(&mut out),
+    );
 }
 
 // Answers line after line. `leaves` has the same loop: a function for both would take `answer` as a closure, and need a crate for these few lines.
-fn run<R: Read>(lines: &mut Lines<'_, R>, out: &mut [u8]) {
+fn run<R: Read>(lines: &mut Lines<'_, R>, out: &mut Printer<'_>) {
     for _ in 0..u64::MAX {
         let Some(found) = lines.next_line() else {
             break;
         };
-        let n = match found {
-            Ok(line) => answer(lines.bytes(line), out),
-            Err(TooLong) => put_unreadable(out),
-        };
-        print::print_line(out, n);
+        match found {
+            Ok(line) => answer(out, lines.bytes(line)),
+            Err(TooLong) => out.put_byte(print::UNREADABLE),
+        }
+        out.print_line();
     }
 }
 
-// `leaves` has the same: crate print has the byte, and where an answer begins in `out` is the programs' to say.
-fn put_unreadable(out: &mut [u8]) -> usize {
-    print::put_byte(out, 0, print::UNREADABLE)
-}
-
-// Puts the answer to a line into out, and answers its length.
-fn answer(line: &[u8], out: &mut [u8]) -> usize {
+fn answer(out: &mut Printer<'_>, line: &[u8]) {
     if text::is_silent(line) {
-        return 0;
+        return;
     }
-    match put_answer(out, line) {
-        Some(n) => n,
-        None => put_unreadable(out),
+    if put_answer(out, line).is_none() {
+        out.put_byte(print::UNREADABLE);
     }
 }
 
@@ -85,27 +82,28 @@ const COMMANDS: [(&[u8], Command); 6] = [
     (b"order", Command::Order),
 ];
 
-// The answer to a line that can be read.
-fn put_answer(out: &mut [u8], line: &[u8]) -> Option<usize> {
+// The answer to a line that can be read. Nothing is put where it can't be: the fields are read before the first byte is put.
+fn put_answer(out: &mut Printer<'_>, line: &[u8]) -> Option<()> {
     match text::named(&COMMANDS, text::field(line, 0))? {
-        Command::Encode => put_encoded(out, line, true),
-        Command::Over => put_encoded(out, line, false),
-        Command::Prepare => put_prepared(out, line),
-        Command::Score => Some(put_scored(out, score(line)?)),
-        Command::Score2 => Some(put_scored(out, score2(line)?)),
-        Command::Order => put_order(out, line),
+        Command::Encode => put_encoded(out, line, true)?,
+        Command::Over => put_encoded(out, line, false)?,
+        Command::Prepare => put_prepared(out, line)?,
+        Command::Score => put_scored(out, score(line)?),
+        Command::Score2 => put_scored(out, score2(line)?),
+        Command::Order => put_order(out, line)?,
     }
+    Some(())
 }
 
-fn put_refused(out: &mut [u8], fault: u8) -> usize {
-    let at = print::put_bytes(out, 0, b"refused ");
-    numerals::put_decimal(out, at, fault as u64)
+fn put_refused(out: &mut Printer<'_>, fault: u8) {
+    out.put_bytes(b"refused ");
+    numerals::put_decimal(out, fault as u64);
 }
 
 // ---- encodings
 
 // A line of `encode`, which is fresh, or of `over`: the vector stands in its last field, after the blocks that it is written over.
-fn put_encoded(out: &mut [u8], line: &[u8], fresh: bool) -> Option<usize> {
+fn put_encoded(out: &mut Printer<'_>, line: &[u8], fresh: bool) -> Option<()> {
     let last = if fresh { 6 } else { 8 };
     let header = header_at(line, last + 1)?;
     let mut v = [0.0f32; 4096];
@@ -114,14 +112,15 @@ fn put_encoded(out: &mut [u8], line: &[u8], fresh: bool) -> Option<usize> {
     let length = block_at(line, 6, fresh, header, &mut block)?;
     let mut block2 = [0u8; 4096];
     let length2 = block_at(line, 7, fresh, header, &mut block2)?;
-    Some(put_encoding(
+    put_encoding(
         out,
         header,
         fresh,
         &v[..n],
         &mut block[..length],
         &mut block2[..length2],
-    ))
+    );
+    Some(())
 }
 
 // Where a block is fresh, as many zeros as it has; else the bytes in field i.
@@ -143,18 +142,19 @@ fn block_length(header: Header, most: usize) -> usize
 }
 
 fn put_encoding(
-    out: &mut [u8],
+    out: &mut Printer<'_>,
     header: Header,
     fresh: bool,
     v: &[f32],
     block: &mut [u8],
     block2: &mut [u8],
-) -> usize {
+) {
     if let Err(refusal) = vectors::check(header.dim, header.working_dim, v) {
-        return put_refused(out, u8::from(refusal));
+        put_refused(out, u8::from(refusal));
+        return;
     }
     let s = encode_by_width(header, fresh, v, block, block2);
-    put_slot(out, header.residual, s, block, block2)
+    put_slot(out, header.residual, s, block, block2);
 }
 
 // The encoding by the tables of the width. There is one boundary fewer than there are centroids.
@@ -179,39 +179,39 @@ fn encode_by_width(
     )
 }
 
-fn put_slot(out: &mut [u8], residual: bool, s: Scales, block: &[u8], block2: &[u8]) -> usize {
-    let at = put_stage(out, 0, block, s.scale);
+fn put_slot(out: &mut Printer<'_>, residual: bool, s: Scales, block: &[u8], block2: &[u8]) {
+    put_stage(out, block, s.scale);
     if residual {
-        let next = print::put_byte(out, at, b' ');
-        return put_stage(out, next, block2, s.scale2);
+        out.put_byte(b' ');
+        put_stage(out, block2, s.scale2);
     }
-    at
 }
 
-fn put_stage(out: &mut [u8], at: usize, block: &[u8], scale: u32) -> usize {
-    let next = runs::put_run(out, at, block);
-    let after = print::put_byte(out, next, b' ');
-    numerals::put_hex(out, after, scale as u64, 8)
+fn put_stage(out: &mut Printer<'_>, block: &[u8], scale: u32) {
+    runs::put_run(out, block);
+    out.put_byte(b' ');
+    numerals::put_hex(out, scale as u64, 8);
 }
 
 // ---- queries
 
-fn put_prepared(out: &mut [u8], line: &[u8]) -> Option<usize> {
+fn put_prepared(out: &mut Printer<'_>, line: &[u8]) -> Option<()> {
     let mut q = [0.0f32; 4096];
     match query_at(line, 1, 4, &mut q)? {
-        Ok(x) => Some(put_query(out, x.rnorm, &q[..x.length])),
-        Err(refusal) => Some(put_refused(out, u8::from(refusal))),
+        Ok(x) => put_query(out, x.rnorm, &q[..x.length]),
+        Err(refusal) => put_refused(out, u8::from(refusal)),
     }
+    Some(())
 }
 
-fn put_query(out: &mut [u8], rnorm: f32, q: &[f32]) -> usize {
-    let at = put_float(out, 0, rnorm);
-    let next = print::put_byte(out, at, b' ');
-    runs::put_vector(out, next, q)
+fn put_query(out: &mut Printer<'_>, rnorm: f32, q: &[f32]) {
+    put_float(out, rnorm);
+    out.put_byte(b' ');
+    runs::put_vector(out, q);
 }
 
-fn put_float(out: &mut [u8], at: usize, x: f32) -> usize {
-    numerals::put_hex(out, at, pattern::to_bits(x) as u64, 8)
+fn put_float(out: &mut Printer<'_>, x: f32) {
+    numerals::put_hex(out, pattern::to_bits(x) as u64, 8);
 }
 
 // A prepared query: the norm before it was scaled, and how many entries it has.
@@ -302,25 +302,26 @@ fn score2_by_width(
     scoring::score_residual(width, &centroids[..n], q, scale, block, scale2, block2)
 }
 
-fn put_scored(out: &mut [u8], s: Scored) -> usize {
+fn put_scored(out: &mut Printer<'_>, s: Scored) {
     match s {
         Scored::Score(x) => put_score(out, x),
         Scored::Refused(n) => put_refused(out, n),
     }
 }
 
-fn put_score(out: &mut [u8], x: f32) -> usize {
-    let at = print::put_bytes(out, 0, b"score ");
-    put_float(out, at, x)
+fn put_score(out: &mut Printer<'_>, x: f32) {
+    out.put_bytes(b"score ");
+    put_float(out, x);
 }
 
-fn put_order(out: &mut [u8], line: &[u8]) -> Option<usize> {
+fn put_order(out: &mut Printer<'_>, line: &[u8]) -> Option<()> {
     if text::field_count(line) != 2 {
         return None;
     }
     let p = values::number_at(line, 1, 0xFFFF_FFFF)?;
     let order = scoring::order_number(pattern::from_bits(p as u32));
-    Some(numerals::put_hex(out, 0, order as u64, 1))
+    numerals::put_hex(out, order as u64, 1);
+    Some(())
 }
 
 // ---- the fields of a line

@@ -22,6 +22,7 @@
 ghost use Rattle.std.specs.Prelude.{◌≤◌, ◌<◌, IfSome};
 
 use lines::{Lines, TooLong};
+use print::Printer;
 use rhdh::Rhdh;
 use signs::SignStream;
 use std::io::Read;
@@ -32,36 +33,32 @@ fn main(rt: HostRuntime) {
     let mut buf = [0u8; 140001];
     // Long enough for the longest answer, that of `narrows`: 4,096 times 24 digits, and a newline.
     let mut out = [0u8; 131072];
-    run(&mut Lines::new(&mut reader, &mut buf), &mut out);
+    run(
+        &mut Lines::new(&mut reader, &mut buf),
+        &mut Printer::new(&mut out),
+    );
 }
 
 // Answers line after line. `encodings` has the same loop, and says why.
-fn run<R: Read>(lines: &mut Lines<'_, R>, out: &mut [u8]) {
+fn run<R: Read>(lines: &mut Lines<'_, R>, out: &mut Printer<'_>) {
     for _ in 0..u64::MAX {
         let Some(found) = lines.next_line() else {
             break;
         };
-        let n = match found {
-            Ok(line) => answer(lines.bytes(line), out),
-            Err(TooLong) => put_unreadable(out),
-        };
-        print::print_line(out, n);
+        match found {
+            Ok(line) => answer(out, lines.bytes(line)),
+            Err(TooLong) => out.put_byte(print::UNREADABLE),
+        }
+        out.print_line();
     }
 }
 
-// As in `encodings`.
-fn put_unreadable(out: &mut [u8]) -> usize {
-    print::put_byte(out, 0, print::UNREADABLE)
-}
-
-// Puts the answer to a line into out, and answers its length.
-fn answer(line: &[u8], out: &mut [u8]) -> usize {
+fn answer(out: &mut Printer<'_>, line: &[u8]) {
     if text::is_silent(line) {
-        return 0;
+        return;
     }
-    match put_answer(out, line) {
-        Some(n) => n,
-        None => put_unreadable(out),
+    if put_answer(out, line).is_none() {
+        out.put_byte(print::UNREADABLE);
     }
 }
 
@@ -96,53 +93,54 @@ const COMMANDS: [(&[u8], Command); 12] = [
     (b"apply", Command::Apply),
 ];
 
-// The answer to a line that can be read.
-fn put_answer(out: &mut [u8], line: &[u8]) -> Option<usize> {
+// The answer to a line that can be read. Nothing is put where it can't be: the fields are read before the first byte is put.
+fn put_answer(out: &mut Printer<'_>, line: &[u8]) -> Option<()> {
     match text::named(&COMMANDS, text::field(line, 0))? {
         Command::Half => {
             let h = one(line, 0xFFFF)?;
-            Some(put_pattern(out, half::f16_bits_to_f32(h as u16)))
+            put_pattern(out, half::f16_bits_to_f32(h as u16));
         }
         Command::Narrow => {
             let p = one(line, 0xFFFF_FFFF)?;
-            Some(numerals::put_hex(out, 0, narrow(p as u32), 4))
+            numerals::put_hex(out, narrow(p as u32), 4);
         }
         Command::Sqrt => {
             let p = one(line, 0xFFFF_FFFF)?;
-            Some(put_float(out, sqrt::sqrt(pattern::from_bits(p as u32))))
+            put_float(out, sqrt::sqrt(pattern::from_bits(p as u32)));
         }
         Command::Padded => {
             let dim = one(line, u64::MAX)?;
-            Some(put_number(out, padding::padded_dim(dim as usize) as u64))
+            put_number(out, padding::padded_dim(dim as usize) as u64);
         }
         Command::Levels => {
             let width = one(line, 0xFF)?;
-            Some(put_number(out, lloyd::levels(width as u8) as u64))
+            put_number(out, lloyd::levels(width as u8) as u64);
         }
         Command::Quantize => {
             let (width, p) = two(line, 3, 0xFF, 0xFFFF_FFFF)?;
             let code = quantizer::quantize(pattern::from_bits(p as u32), width as u8);
-            Some(put_number(out, code as u64))
+            put_number(out, code as u64);
         }
         Command::Dequantize => {
             let (width, code) = two(line, 3, 0xFF, 0xFF)?;
-            Some(put_float(out, dequantizer::dequantize(code as u8, width as u8)))
+            put_float(out, dequantizer::dequantize(code as u8, width as u8));
         }
         Command::Signs => {
             let (seed, n) = two(line, 3, u64::MAX, 4096)?;
-            Some(put_signs(out, seed, n))
+            put_signs(out, seed, n);
         }
         Command::Halves => {
             let (from, to) = range(line)?;
-            Some(put_halves(out, from, to))
+            put_halves(out, from, to);
         }
         Command::Narrows => {
             let (from, to) = range(line)?;
-            Some(put_narrows(out, from, to))
+            put_narrows(out, from, to);
         }
-        Command::Fwht => put_fwht(out, line),
-        Command::Apply => put_applied(out, line),
+        Command::Fwht => put_fwht(out, line)?,
+        Command::Apply => put_applied(out, line)?,
     }
+    Some(())
 }
 
 // ---- the numbers of a line
@@ -183,66 +181,60 @@ fn range(line: &[u8]) -> Option<(u64, u64)>
 
 // ---- commands that answer with one number
 
-fn put_number(out: &mut [u8], n: u64) -> usize {
-    numerals::put_hex(out, 0, n, 1)
+fn put_number(out: &mut Printer<'_>, n: u64) {
+    numerals::put_hex(out, n, 1);
 }
 
-fn put_pattern(out: &mut [u8], p: u32) -> usize {
-    numerals::put_hex(out, 0, p as u64, 8)
+fn put_pattern(out: &mut Printer<'_>, p: u32) {
+    numerals::put_hex(out, p as u64, 8);
 }
 
-fn put_float(out: &mut [u8], x: f32) -> usize {
-    put_pattern(out, pattern::to_bits(x))
+fn put_float(out: &mut Printer<'_>, x: f32) {
+    put_pattern(out, pattern::to_bits(x));
 }
 
 // ---- commands that answer with a run
 
-fn put_signs(out: &mut [u8], seed: u64, n: u64) -> usize {
+fn put_signs(out: &mut Printer<'_>, seed: u64, n: u64) {
     let mut stream = SignStream::new(seed);
-    let mut at = 0;
     for _ in 0..n {
         let s = stream.next_sign();
-        at = print::put_byte(out, at, sign_byte(s.sign));
+        out.put_byte(sign_byte(s.sign));
         stream = s.stream;
     }
-    at
 }
 
 fn sign_byte(sign: f32) -> u8 {
     if sign < 0.0 { b'-' } else { b'+' }
 }
 
-fn put_halves(out: &mut [u8], from: u64, to: u64) -> usize
+fn put_halves(out: &mut Printer<'_>, from: u64, to: u64)
     requires { to ≤ 65536 }
 {
-    let mut at = 0;
     for h in from..to {
-        at = numerals::put_hex(out, at, half::f16_bits_to_f32(h as u16) as u64, 8);
+        numerals::put_hex(out, half::f16_bits_to_f32(h as u16) as u64, 8);
     }
-    at
 }
 
-fn put_narrows(out: &mut [u8], from: u64, to: u64) -> usize
+fn put_narrows(out: &mut Printer<'_>, from: u64, to: u64)
     requires { to ≤ 65536 }
 {
-    let mut at = 0;
     for h in from..to {
-        at = put_narrows_of(out, at, h as u16);
+        put_narrows_of(out, h as u16);
     }
-    at
 }
 
-fn put_narrows_of(out: &mut [u8], at: usize, h: u16) -> usize {
+fn put_narrows_of(out: &mut Printer<'_>, h: u16) {
     let p = half::f16_bits_to_f32(h);
     let magnitude = h % 0x8000;
     if 0x7C00 < magnitude {
-        return numerals::put_hex(out, at, narrow(p), 4);
+        numerals::put_hex(out, narrow(p), 4);
+        return;
     }
-    let next = numerals::put_hex(out, at, around(p), 12);
-    if magnitude == 0x7C00 {
-        return next;
+    numerals::put_hex(out, around(p), 12);
+    if magnitude < 0x7C00 {
+        numerals::put_hex(out, around(midpoint(h)), 12);
     }
-    numerals::put_hex(out, next, around(midpoint(h)), 12)
 }
 
 fn narrow(p: u32) -> u64
@@ -274,18 +266,19 @@ fn midpoint(h: u16) -> u32 {
 }
 
 // The vector of the line, transformed.
-fn put_fwht(out: &mut [u8], line: &[u8]) -> Option<usize> {
+fn put_fwht(out: &mut Printer<'_>, line: &[u8]) -> Option<()> {
     if text::field_count(line) != 2 {
         return None;
     }
     let mut v = [0.0f32; 4096];
     let n = values::vector_at(line, 1, &mut v)?;
     fwht::fwht(&mut v[..n]);
-    Some(runs::put_vector(out, 0, &v[..n]))
+    runs::put_vector(out, &v[..n]);
+    Some(())
 }
 
 // The vector of the line, rotated by its size and its seed.
-fn put_applied(out: &mut [u8], line: &[u8]) -> Option<usize> {
+fn put_applied(out: &mut Printer<'_>, line: &[u8]) -> Option<()> {
     let (dim, seed) = two(line, 4, 4096, u64::MAX)?;
     let mut v = [0.0f32; 4096];
     let n = values::vector_at(line, 3, &mut v)?;
@@ -296,5 +289,6 @@ fn put_applied(out: &mut [u8], line: &[u8]) -> Option<usize> {
     }
     let mut w = [0.0f32; 4096];
     rotation.apply(&v[..n], &mut w[..padded]);
-    Some(runs::put_vector(out, 0, &w[..padded]))
+    runs::put_vector(out, &w[..padded]);
+    Some(())
 }

@@ -8,8 +8,9 @@ use native.Mathlib.Numerals.{add-one}
 use native.Mathlib.Omega.{arith}
 use lib.ListN.{length, get_or}
 use Rattle.lists.specs.Lists.{tab, joined}
-use Rattle.print.specs.Printed.{Prints}
-use Rattle.print.proofs.Places.{put_then}
+use Rattle.print.specs.declared.Printer.{Printer}
+use Rattle.print.specs.Printer.{Printed}
+use Rattle.print.proofs.Places.{put_none, put_then}
 use Rattle.numerals.specs.Numerals.{decimal_text}
 use Rattle.slot_keys.specs.Has.{key_at}
 use Rattle.encode.specs.declared.Header.{Header}
@@ -18,44 +19,37 @@ use Rattle.listed.specs.Listing.{head_line, key_text, upper_digit, half_text}
 
 -- ---- pieces
 
-pub put-head : (v v' : ℕ) (h h' : Header) (n n' : ℕ) (d : List ℕ) (at : ℕ) (d' : List ℕ) (next : ℕ) → v ≡ v' → h ≡ h' → n ≡ n'
-    → Prints d at (head_line v h n) d' next → Prints d at (head_line v' h' n') d' next
-put-head v v' h h' n n' d at d' next e f g p = rw (e, f, g) at p
+pub put-head : (v v' : ℕ) (h h' : Header) (n n' : ℕ) {old new : Printer} → v ≡ v' → h ≡ h' → n ≡ n' → Printed (head_line v h n) old new → Printed (head_line v' h' n') old new
+put-head v v' h h' n n' e f g p = rw (e, f, g) at p
 
-module _ (keys : List ℕ) (keyed : List Bool) (slot : ℕ) (d : List ℕ) (at : ℕ) (d' : List ℕ) (next : ℕ) where
-  pub put-keyed : (k : ℕ) → get_or keyed slot false ≡ true → k ≡ get_or keys slot 0 → Prints d at (decimal_text k) d' next → Prints d at (key_text (key_at keys keyed slot)) d' next
+module _ (keys : List ℕ) (keyed : List Bool) (slot : ℕ) {old new : Printer} where
+  pub put-keyed : (k : ℕ) → get_or keyed slot false ≡ true → k ≡ get_or keys slot 0 → Printed (decimal_text k) old new → Printed (key_text (key_at keys keyed slot)) old new
   unfolding key_at
   put-keyed k on e p = rw (on, ← e) p
 
-  pub put-unkeyed : get_or keyed slot false ≡ false → Prints d at (45 ∷ []) d' next → Prints d at (key_text (key_at keys keyed slot)) d' next
+  pub put-unkeyed : get_or keyed slot false ≡ false → Printed (45 ∷ []) old new → Printed (key_text (key_at keys keyed slot)) old new
   unfolding key_at
   put-unkeyed off p = rw off p
 
-pub put-digits : (h x y z u : ℕ) (d : List ℕ) (at : ℕ) (d' : List ℕ) (next : ℕ) → x ≡ upper_digit (h / 4096 % 16) → y ≡ upper_digit (h / 256 % 16) → z ≡ upper_digit (h / 16 % 16)
-    → u ≡ upper_digit (h % 16) → Prints d at (32 ∷ x ∷ y ∷ z ∷ u ∷ 10 ∷ []) d' next → Prints d at (32 ∷ half_text h ++ (10 ∷ [])) d' next
-put-digits h x y z u d at d' next e f g k p = rw (e, f, g, k) at p
-
 -- ---- a line for each of n slots
 
-module _ (line : ℕ → List ℕ) (n : ℕ) (d : List ℕ) (at : ℕ) where
+module _ (line : ℕ → List ℕ) (n : ℕ) where
   -- the first i are put
-  pub record Lines (d' : List ℕ) (next i : ℕ) : Type 0 where
+  pub record Lines (i : ℕ) (old new : Printer) : Type 0 where
     pub some : i ≤ n
-    pub put : Prints d at (joined (tab line i)) d' next
+    pub put : Printed (joined (tab line i)) old new
 
-  pub lines_none : at ≤ length d → Lines d at 0
+  pub lines_none : (p : Printer) → Lines 0 p p
   unfolding joined
-  lines_none room = record { some = omega arith; put = record { text = refl; place = omega arith } }
+  lines_none p = record { some = omega arith; put = put_none p }
 
-  pub lines_more : (d' : List ℕ) (next i : ℕ) (t d'' : List ℕ) (after : ℕ) → i < n → t ≡ line i → Lines d' next i → Prints d' next t d'' after → Lines d'' after (i + 1)
+  pub lines_more : (i : ℕ) {t : List ℕ} {old mid new : Printer} → i < n → t ≡ line i → Lines i old mid → Printed t mid new → Lines (i + 1) old new
   unfolding joined
-  lines_more d' next i t d'' after h e p q =
+  lines_more i h e p q =
       record {
         some = omega arith;
-        put =
-            rw (add-one i, joined-append (tab line i) (line i ∷ []), append-nil (line i))
-            (put_then d at (joined (tab line i)) (line i) d' next d'' after p.put (rw e at q));
+        put = rw (add-one i, joined-append (tab line i) (line i ∷ []), append-nil (line i)) (put_then p.put (rw e at q));
       }
 
-  pub lines-all : (m : ℕ) (d' : List ℕ) (next i : ℕ) → n ≡ m → n ≤ i → Lines d' next i → Prints d at (joined (tab line m)) d' next
-  lines-all m d' next i e h p = rw (le_antisymm p.some h ∙ e) at p.put
+  pub lines-all : (m i : ℕ) {old new : Printer} → n ≡ m → n ≤ i → Lines i old new → Printed (joined (tab line m)) old new
+  lines-all m i e h p = rw (le_antisymm p.some h ∙ e) at p.put

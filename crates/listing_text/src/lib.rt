@@ -12,6 +12,7 @@
 
 ghost use Rattle.std.specs.Prelude.{◌≡◌, [], ◌∷◌, ◌++◌, ℕ, ◌%◌, ◌≤◌, ◌<◌, length};
 ghost use Rattle.print.specs.Printed.{Prints};
+ghost use Rattle.print.specs.Printer.{Printed};
 ghost use Rattle.refusal.specs.Refusal.{number_of, fault_of};
 ghost use Rattle.slot_keys.specs.Has.{key_at};
 ghost use Rattle.index.specs.Step.{first_of};
@@ -19,6 +20,7 @@ ghost use Rattle.index.specs.Read.{version_in, count_in, header_in, head_fault, 
 ghost use Rattle.listed.specs.Listing.{room, next_number, head_line, key_text, upper_digit, half_text, slot_line, refusal_line, half_in, lines_of, text_unless, listing_text};
 
 use index::LentMut;
+use print::Printer;
 use refusal::Refusal;
 
 // ---- reading
@@ -72,44 +74,44 @@ fn half_of(file: &[u8], slot: u32) -> u16
     little_endian::rd_u16(little_endian::after(scales, slot as usize * 2))
 }
 
-// ---- lines, put from a place on
+// ---- lines
 
-fn put_refusal(out: &mut [u8], refusal: Refusal) -> usize
-    ensures { Prints out.old 0 (refusal_line (number_of refusal)) out.new result }
+fn put_refusal(out: &mut Printer<'_>, refusal: Refusal)
+    ensures { Printed (refusal_line (number_of refusal)) out.old out.new }
 {
     let number = u8::from(refusal);
-    let end = numerals::put_decimal(out, 0, number as u64);
-    print::put_byte(out, end, b'\n')
+    numerals::put_decimal(out, number as u64);
+    out.put_byte(b'\n');
 }
 
-fn put_next(out: &mut [u8], at: usize, n: u64) -> usize
-    ensures { Prints out.old at (next_number n) out.new result }
+fn put_next(out: &mut Printer<'_>, n: u64)
+    ensures { Printed (next_number n) out.old out.new }
 {
-    let from = print::put_byte(out, at, b' ');
-    numerals::put_decimal(out, from, n)
+    out.put_byte(b' ');
+    numerals::put_decimal(out, n);
 }
 
-fn put_head(out: &mut [u8], file: &[u8]) -> usize
-    ensures { Prints out.old 0 (head_line (version_in file.now) (header_in file.now) (count_in file.now))
-        out.new result }
+fn put_head(out: &mut Printer<'_>, file: &[u8])
+    ensures { Printed (head_line (version_in file.now) (header_in file.now) (count_in file.now)) out.old out.new }
 {
     let head = header::head_in(file);
     let header = head.header;
-    let version_end = numerals::put_decimal(out, 0, head.version as u64);
-    let dim_end = put_next(out, version_end, header.dim as u64);
-    let working_end = put_next(out, dim_end, header.working_dim as u64);
-    let width_end = put_next(out, working_end, header.bits as u64);
-    let end = put_next(out, width_end, head.count as u64);
-    print::put_byte(out, end, b'\n')
+    numerals::put_decimal(out, head.version as u64);
+    put_next(out, header.dim as u64);
+    put_next(out, header.working_dim as u64);
+    put_next(out, header.bits as u64);
+    put_next(out, head.count as u64);
+    out.put_byte(b'\n');
 }
 
-fn put_key(out: &mut [u8], at: usize, keys: &[u64], keyed: &[bool], slot: usize) -> usize
-    ensures { Prints out.old at (key_text (key_at keys.now keyed.now slot)) out.new result }
+fn put_key(out: &mut Printer<'_>, keys: &[u64], keyed: &[bool], slot: usize)
+    ensures { Printed (key_text (key_at keys.now keyed.now slot)) out.old out.new }
 {
     if slot_keys::is_keyed(keyed, slot) {
-        return numerals::put_decimal(out, at, slot_keys::key_word(keys, slot));
+        numerals::put_decimal(out, slot_keys::key_word(keys, slot));
+        return;
     }
-    print::put_byte(out, at, b'-')
+    out.put_byte(b'-');
 }
 
 // The last hexadecimal digit of n, in upper case.
@@ -125,8 +127,8 @@ fn last_digit(n: u16) -> u8
 }
 
 // A blank, four digits, and the line's end.
-fn put_half(out: &mut [u8], at: usize, half: u16) -> usize
-    ensures { Prints out.old at (32 ∷ half_text half ++ (10 ∷ [])) out.new result }
+fn put_half(out: &mut Printer<'_>, half: u16)
+    ensures { Printed (32 ∷ half_text half ++ (10 ∷ [])) out.old out.new }
 {
     let text = [
         b' ',
@@ -136,50 +138,56 @@ fn put_half(out: &mut [u8], at: usize, half: u16) -> usize
         last_digit(half),
         b'\n',
     ];
-    print::put_bytes(out, at, &text)
+    out.put_bytes(&text);
 }
 
-fn put_slot(out: &mut [u8], at: usize, keys: &[u64], keyed: &[bool], slot: u32, half: u16) -> usize
-    ensures { Prints out.old at (slot_line slot (key_at keys.now keyed.now slot) half) out.new result }
+fn put_slot(out: &mut Printer<'_>, keys: &[u64], keyed: &[bool], slot: u32, half: u16)
+    ensures { Printed (slot_line slot (key_at keys.now keyed.now slot) half) out.old out.new }
 {
-    let slot_end = numerals::put_decimal(out, at, slot as u64);
-    let key_at = print::put_byte(out, slot_end, b' ');
-    let key_end = put_key(out, key_at, keys, keyed, slot as usize);
-    put_half(out, key_end, half)
+    numerals::put_decimal(out, slot as u64);
+    out.put_byte(b' ');
+    put_key(out, keys, keyed, slot as usize);
+    put_half(out, half);
 }
 
-fn put_slots(out: &mut [u8], at: usize, keys: &[u64], keyed: &[bool], file: &[u8]) -> usize
-    requires { at ≤ length out.old }
-    ensures { Prints out.old at (lines_of file.now (key_at keys.now keyed.now)) out.new result }
+fn put_slots(out: &mut Printer<'_>, keys: &[u64], keyed: &[bool], file: &[u8])
+    ensures { Printed (lines_of file.now (key_at keys.now keyed.now)) out.old out.new }
 {
-    let n = header::head_in(file).count;
-    let mut next = at;
-    for slot in 0..n {
-        next = put_slot(out, next, keys, keyed, slot, half_of(file, slot));
+    for slot in 0..header::head_in(file).count {
+        put_slot(out, keys, keyed, slot, half_of(file, slot));
     }
-    next
 }
 
 // ---- the listing
 
-fn put_read(out: &mut [u8], file: &[u8]) -> usize
-    ensures { Prints out.old 0 (text_unless (read_refusal file.now room) file.now) out.new result }
+fn put_read(out: &mut Printer<'_>, file: &[u8])
+    ensures { Printed (text_unless (read_refusal file.now room) file.now) out.old out.new }
 {
     let mut keys = [0u64; 1024];
     let mut keyed = [false; 1024];
     if let Err(refusal) = read_keys(&mut keys, &mut keyed, file) {
-        return put_refusal(out, refusal);
+        put_refusal(out, refusal);
+        return;
     }
-    let at = put_head(out, file);
-    put_slots(out, at, &keys, &keyed, file)
+    put_head(out, file);
+    put_slots(out, &keys, &keyed, file);
+}
+
+fn put_text(out: &mut Printer<'_>, file: &[u8])
+    ensures { Printed (listing_text file.now) out.old out.new }
+{
+    if 65536 < file.len() {
+        put_refusal(out, long_refusal(file));
+        return;
+    }
+    put_read(out, file);
 }
 
 // Puts the text at the front of out and answers the place after it. What has no room is cut off: 65,536 places are enough (`TextFits` of `listed`).
 pub fn put_listing(out: &mut [u8], file: &[u8]) -> usize
     ensures { Prints out.old 0 (listing_text file.now) out.new result }
 {
-    if 65536 < file.len() {
-        return put_refusal(out, long_refusal(file));
-    }
-    put_read(out, file)
+    let mut printer = Printer::new(out);
+    put_text(&mut printer, file);
+    printer.text().len()
 }

@@ -10,7 +10,8 @@ use borrow.Author.Tests.{lt-ltb, le-ltb}
 use lib.Dec.{ltb}
 use lib.ListN.{length, take, length-append}
 use Rattle.io.specs.Digits.{hex_digit_ascii, last_digits, IsDigitCount}
-use Rattle.print.specs.Printed.{Prints}
+use Rattle.print.specs.declared.Printer.{Printer}
+use Rattle.print.specs.Printer.{Printed}
 use Rattle.numerals.specs.Numerals.{numeral}
 
 once : (b : ℕ) → b ^ 1 ≡ b
@@ -56,9 +57,9 @@ module _ (b : ℕ) (base : 1 < b) where
       ]
 
   -- a number, printed from an array that begins with its digits
-  pub put-number : (least most n k : ℕ) (array d : List ℕ) (at : ℕ) (d' : List ℕ) (next : ℕ) → 0 < least → least ≤ most → n < b ^ most → IsDigitCount b least n k → take k array ≡ last_digits b k n
-      → Prints d at (take k array) d' next → Prints d at (numeral b least most n) d' next
-  put-number least most n k array d at d' next some room fits f e p = rw (e, fewest-digits least most n k some (few least most n k room fits f) f) at p
+  pub put-number : (least most n k : ℕ) (array : List ℕ) {old new : Printer} → 0 < least → least ≤ most → n < b ^ most → IsDigitCount b least n k → take k array ≡ last_digits b k n
+      → Printed (take k array) old new → Printed (numeral b least most n) old new
+  put-number least most n k array some room fits f e p = rw (e, fewest-digits least most n k some (few least most n k room fits f) f) at p
 
 pub numeral-length : (b least most n : ℕ) → length (numeral b least most n) ≤ most
 unfolding numeral

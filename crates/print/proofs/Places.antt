@@ -15,7 +15,9 @@ use Rattle.std.proofs.lemmas.List.{drop_all}
 use Rattle.std.proofs.lemmas.Slice.{put_mid-paste}
 use Rattle.lists.proofs.Keep.{sets-append}
 use Rattle.io.specs.Counts.{IsPrefixLen}
+use Rattle.print.specs.declared.Printer.{Printer}
 use Rattle.print.specs.Printed.{Prints}
+use Rattle.print.specs.Printer.{Printed}
 
 -- bytes that are stored at the end of the list, or past it, are lost
 sets-out : (l : List ℕ) (k : ℕ) (t : List ℕ) → length l ≤ k → sets l k t ≡ l
@@ -30,8 +32,8 @@ cut l k n t e = go (ltb k n) refl
     go false h = let past = ltb-false k n h in rw (min-eq_right past, sets-out l n t (omega arith), sets-out l k t (omega arith))
 
 -- what is printed from the place after s on stands after s
-pub put_then : (d : List ℕ) (at : ℕ) (s t d' : List ℕ) (next : ℕ) (d'' : List ℕ) (after : ℕ) → Prints d at s d' next → Prints d' next t d'' after → Prints d at (s ++ t) d'' after
-put_then d at s t d' next d'' after p q =
+print_then : (d : List ℕ) (at : ℕ) (s t d' : List ℕ) (next : ℕ) (d'' : List ℕ) (after : ℕ) → Prints d at s d' next → Prints d' next t d'' after → Prints d at (s ++ t) d'' after
+print_then d at s t d' next d'' after p q =
     let kept : length d' ≡ length d = ap length p.text ∙ length-sets d at s in
     let both : length (s ++ t) ≡ length s + length t = length-append s t in
     record {
@@ -41,6 +43,14 @@ put_then d at s t d' next d'' after p q =
           ∙ sym (sets-append d at s t);
       place = omega (arith, p.place, q.place);
     }
+
+pub put_none : (p : Printer) → Printed [] p p
+put_none p = record { prints = record { text = refl; place = omega (arith, p.in_out) }; same_buffer = refl }
+
+-- t after s
+pub put_then : {old mid : Printer} {s : List ℕ} → Printed s old mid → {new : Printer} {t : List ℕ} → Printed t mid new → Printed (s ++ t) old new
+put_then {old} {mid} {s} p {new} {t} q =
+    record { prints = print_then old.out.now old.at s t mid.out.now mid.at new.out.now new.at p.prints q.prints; same_buffer = q.same_buffer ∙ p.same_buffer }
 
 -- what has room of t, stored from k on, is all that is stored of it
 room : (d : List ℕ) (k : ℕ) (t : List ℕ) (n : ℕ) → k ≤ length d → n ≡ min (length t) (length d - k) → sets d k (take n t) ≡ sets d k t
@@ -59,17 +69,13 @@ room d k t n h e = sym rest ∙ ap (λ (l : List ℕ). sets d k l) (take-append-
     rest : sets d k (take n t ++ drop n t) ≡ sets d k (take n t)
     rest = sets-append d k (take n t) (drop n t) ∙ past (sets d k (take n t)) (k + length (take n t)) (length-sets d k (take n t)) (omega (arith, size))
 
--- a copy of what has room, from the place `at` on or from the end where that comes first
-pub put_copy : (d : List ℕ) (at : ℕ) (t : List ℕ) (from n k : ℕ) (part : List ℕ) → from ≡ min at (length d) → n ≡ min (length t) (length d - from) → k ≡ n → part ≡ take n t
-    → Prints d at t (put_mid from k d part) (from + n)
-put_copy d at t from n k part f e same copied =
+-- a copy of what has room
+pub put_copy : (d : List ℕ) (at : ℕ) (t : List ℕ) (n k : ℕ) (part : List ℕ) → at ≤ length d → n ≡ min (length t) (length d - at) → k ≡ n → part ≡ take n t → Prints d at t (put_mid at k d part) (at + n)
+put_copy d at t n k part h e same copied =
     let size : length (take n t) ≡ n = length-take-le n t (omega arith) in
-    let stored : put_mid from k d part ≡ sets d from (take n t) =
-    put_mid-paste from k d part (take n t) (length (take n t)) copied (omega arith) refl ∙ rw take-length (sym (sets-eq (take n t) d from (omega arith))) in
-    record {
-      text = stored ∙ room d from t n (omega arith) e ∙ rw (f, cut d at (length d) t refl);
-      place = omega arith;
-    }
+    let stored : put_mid at k d part ≡ sets d at (take n t) =
+    put_mid-paste at k d part (take n t) (length (take n t)) copied (omega arith) refl ∙ rw take-length (sym (sets-eq (take n t) d at (omega arith))) in
+    record { text = stored ∙ room d at t n h e; place = omega arith }
 
 -- what has room at the front stands there whole
 pub whole : (d t d' : List ℕ) (next : ℕ) → length t ≤ length d → Prints d 0 t d' next → IsPrefixLen next d' × (take next d' ≡ t)

@@ -1,13 +1,14 @@
-// Runs of numbers in hexadecimal, printed as `print` does it: what has no room is cut off, and each answers the place after what it printed.
-// No function here asks anything of its caller.
+// Runs of numbers in hexadecimal, printed as `print` does it: what has no room is cut off. No function here asks anything of its caller.
 #![tactic(auto)]
 
 ghost use Rattle.std.specs.Prelude.{◌≡◌, ℕ, ◌^◌, ◌≤◌, ◌<◌, cond};
 ghost use Rattle.std.specs.Float.{binary32};
 ghost use Rattle.std.specs.Float.Ieee.{to_bits};
 ghost use Rattle.std.proofs.Common.{rules};
-ghost use Rattle.print.specs.Printed.{Prints};
+ghost use Rattle.print.specs.Printer.{Printed};
 ghost use Rattle.runs.specs.Runs.{run_text};
+
+use print::Printer;
 
 // What is printed as a number, always in as many hexadecimal digits.
 pub trait InHex {
@@ -95,28 +96,27 @@ impl InHex for bool {
 }
 
 // A vector: the patterns of its entries in eight digits each, run together; `-` where it has none.
-pub fn put_vector(out: &mut [u8], at: usize, v: &[f32]) -> usize
-    ensures { Prints out.old at (run_text 8 (to_bits binary32) v.now) out.new result }
+pub fn put_vector(out: &mut Printer<'_>, v: &[f32])
+    ensures { Printed (run_text 8 (to_bits binary32) v.now) out.old out.new }
 {
-    put_each(out, at, v)
+    put_each(out, v);
 }
 
 // A run of bytes: two digits each, run together; `-` where there is none.
-pub fn put_run(out: &mut [u8], at: usize, bytes: &[u8]) -> usize
-    ensures { Prints out.old at (run_text 2 (λ b. b) bytes.now) out.new result }
+pub fn put_run(out: &mut Printer<'_>, bytes: &[u8])
+    ensures { Printed (run_text 2 (λ b. b) bytes.now) out.old out.new }
 {
-    put_each(out, at, bytes)
+    put_each(out, bytes);
 }
 
-fn put_each<T: InHex + Copy>(out: &mut [u8], at: usize, xs: &[T]) -> usize
-    ensures { Prints out.old at (run_text T.DIGITS T.number xs.now) out.new result }
+fn put_each<T: InHex + Copy>(out: &mut Printer<'_>, xs: &[T])
+    ensures { Printed (run_text T.DIGITS T.number xs.now) out.old out.new }
 {
     if xs.is_empty() {
-        return print::put_byte(out, at, b'-');
+        out.put_byte(b'-');
+        return;
     }
-    let mut next = at.min(out.len());
     for x in xs {
-        next = numerals::put_hex(out, next, x.number(), T::DIGITS);
+        numerals::put_hex(out, x.number(), T::DIGITS);
     }
-    next
 }

@@ -9,13 +9,7 @@ pub returns : goal.returns
 unfolding head_line
 returns c =
     let head = c.head_in-head.ensures in
-    put-head _ _ _ _ _ _ _ _ _ _ (ap (λ (h : Head). h.version) head) (ap (λ (h : Head). h.header) head) (ap (λ (h : Head). h.count) head)
-    (put_then _ _ _ _ _ _ _ _
-    (put_then _ _ _ _ _ _ _ _
-    (put_then _ _ _ _ _ _ _ _
-    (put_then _ _ _ _ _ _ _ _
-    (put_then _ _ _ _ _ _ _ _ c.put_decimal-version_end.ensures c.put_next-dim_end.ensures)
-    c.put_next-working_end.ensures)
-    c.put_next-width_end.ensures)
-    c.put_next-end.ensures)
-    c.put_byte.ensures)
+    let dim = put_then c.put_decimal.ensures c.put_next.ensures in
+    let bits = put_then (put_then dim c.put_next-2.ensures) c.put_next-3.ensures in
+    put-head _ _ _ _ _ _ (ap (λ (h : Head). h.version) head) (ap (λ (h : Head). h.header) head) (ap (λ (h : Head). h.count) head)
+    (put_then (put_then bits c.put_next-4.ensures) c.put_byte.ensures)

@@ -2,4 +2,4 @@ use Rattle.print.proofs.Places.{put_then}
 use Rattle.listing_text.proofs.put_refusal.Goals as goal
 
 pub returns : goal.returns
-returns c = put_then _ _ _ _ _ _ _ _ (rw c.from-number.ensures at c.put_decimal-end.ensures) c.put_byte.ensures
+returns c = put_then (rw c.from-number.ensures at c.put_decimal.ensures) c.put_byte.ensures

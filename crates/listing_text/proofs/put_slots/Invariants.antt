@@ -10,4 +10,4 @@ abbrev pub line_of : (keys : List ℕ) → (keyed : List Bool) → (file : List 
 line_of keys keyed file i = slot_line i (key_at keys keyed i) (half_in file i)
 
 abbrev pub invariant-loop-slot : goal.invariant-loop-slot
-invariant-loop-slot l = Lines (line_of l.keys l.keyed l.file) l.n l.initial.out l.at l.out l.next l.slot
+invariant-loop-slot l = Lines (line_of l.keys l.keyed l.file) l.slot-end l.slot l.initial.out l.out

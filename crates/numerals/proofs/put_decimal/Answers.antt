@@ -6,4 +6,4 @@ use Rattle.numerals.proofs.put_decimal.Goals as goal
 pub returns : goal.returns
 returns c =
     let called = c.decimal-k.ensures in
-    put-number 10 (lit< tt) 1 20 _ _ _ _ _ _ _ (lit< tt) (lit≤ tt) (omega arith) called.len called.digits c.put_bytes.ensures
+    put-number 10 (lit< tt) 1 20 _ _ _ (lit< tt) (lit≤ tt) (omega arith) called.len called.digits c.put_bytes.ensures

@@ -6,4 +6,4 @@ use Rattle.numerals.proofs.put_hex.Goals as goal
 pub returns : goal.returns
 returns c =
     let called = c.hex-k.ensures in
-    put-number 16 (lit< tt) _ 16 _ _ _ _ _ _ _ (omega arith) (omega arith) (omega arith) called.len called.digits c.put_bytes.ensures
+    put-number 16 (lit< tt) _ 16 _ _ _ (omega arith) (omega arith) (omega arith) called.len called.digits c.put_bytes.ensures
