@@ -198,9 +198,7 @@ fn put_float(out: &mut Printer<'_>, x: f32) {
 fn put_signs(out: &mut Printer<'_>, seed: u64, n: u64) {
     let mut stream = SignStream::new(seed);
     for _ in 0..n {
-        let s = stream.next_sign();
-        out.put_byte(sign_byte(s.sign));
-        stream = s.stream;
+        out.put_byte(sign_byte(stream.next_sign()));
     }
 }
 

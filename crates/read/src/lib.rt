@@ -53,7 +53,7 @@ fn each_once(table: &[u8], entries: u32, n: usize) -> bool
     true
 }
 
-// A slot below n gets a key.
+// A slot below n gets a key. That both arrays have the slots is a clause of each function here: a struct of the two, made for this walk alone, would be longer.
 fn give_key(keys: &mut [u64], keyed: &mut [bool], n: usize, slot: usize, key: u64)
     requires { (n ≤ length keys.old) × (n ≤ length keyed.old) }
     ensures keys_after { keys.new ≡ cond (ltb slot n) (set keys.old slot key) keys.old }

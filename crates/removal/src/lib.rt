@@ -14,6 +14,8 @@ ghost use Rattle.removal.specs.Dead.{lent_marks, dead_at, dead_where, placed_at}
 use index::{Index, Lent};
 use refusal::Refusal;
 
+// The three arrays that change go as three slices: a struct of them would be made of the lent slices at each of the two calls below, and its fields taken apart again for `marks` and `slot_keys`.
+
 // Leaves a slot dead.
 fn remove_slot(keyed: &mut [bool], held: &mut [u32], alive: &mut [u8], slot: usize)
     requires { (slot < length keyed.old) × (slot < length held.old) }

@@ -14,9 +14,7 @@ fn write_signed(v: &[f32], seed: u64, out: &mut [f32])
 {
     let mut stream = SignStream::new(seed);
     for (i, x) in out.iter_mut().enumerate() {
-        let next = stream.next_sign();
-        *x = v.get(i).copied().unwrap_or(0.0) * next.sign;
-        stream = next.stream;
+        *x = v.get(i).copied().unwrap_or(0.0) * stream.next_sign();
     }
 }
 

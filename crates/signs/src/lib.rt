@@ -32,13 +32,6 @@ pub struct SignStream {
     pub state: u64,
 }
 
-// A sign, 1 or -1, and the stream after it.
-#[derive(Drop)]
-pub struct Signed {
-    pub sign: f32,
-    pub stream: SignStream,
-}
-
 impl SignStream {
     // The state 0 would stay 0 for ever, so the seed 0 stands for another.
     #[tactic(auto, unfolding(crate::specs::Signs::start))]
@@ -53,25 +46,21 @@ impl SignStream {
         Self { state }
     }
 
-    // A step, and the sign by the top bit of the output. The Rust compares the output's top 53 bits, as a fraction, with 0.5, which is the same test.
+    // A step, and the sign, 1 or -1, by the top bit of the output. The Rust compares the output's top 53 bits, as a fraction, with 0.5, which is the same test.
     // The bit picks the sign from an array: an `if` becomes a jump, which would be guessed wrong half the time.
     #[tactic(auto, using(crate::proofs::Signs::sign_by_top), unfolding(crate::specs::Signs::xor_right, crate::specs::Signs::xor_left, crate::specs::Signs::next_state, crate::specs::Signs::output))]
-    pub fn next_sign(self) -> Signed
-        ensures state { result.stream.state ≡ next_state self.state }
-        ensures sign { result.sign ≡ sign (output (next_state self.state)) }
+    pub fn next_sign(&mut self) -> f32
+        ensures state { self.new.state ≡ next_state self.old.state }
+        ensures sign { result ≡ sign (output (next_state self.old.state)) }
     {
         let s = self.state;
         let a = s ^ (s >> 12);
         let b = a ^ (a << 25);
-        let next = b ^ (b >> 27);
+        self.state = b ^ (b >> 27);
         let multiplier = [0x2545_F491_4F6C_DD1D];
-        let output = scrambled(next, &multiplier);
+        let output = scrambled(self.state, &multiplier);
         let signs = [-1.0, 1.0];
         let top = (output >> 63) as usize;
-        let sign = signs[top];
-        Signed {
-            sign,
-            stream: Self { state: next },
-        }
+        signs[top]
     }
 }

@@ -8,7 +8,7 @@ pub loop-i-preserved : goal.loop-i-preserved
 unfolding of_bits
 loop-i-preserved c =
     let inv = c.loop-i.invariant in
-    let next = c.next_sign-next.ensures in
+    let next = c.next_sign.ensures in
     written_more _ _ _ _ _ _ inv _ _ _ (omega (arith, written-length _ _ _ _ _ _ inv)) (search rules) next.state next.sign
 
 pub returns : goal.returns
