@@ -28,6 +28,7 @@ use refusal::Refusal;
 use score::Scored;
 use std::io::Read;
 
+// `leaves` begins alike, with buffers of other sizes.
 fn main(rt: HostRuntime) {
     let mut reader = rt.stdin();
     // As long as the longest line that is read, 140,000 bytes, and its newline.
@@ -54,6 +55,7 @@ fn run<R: Read>(lines: &mut Lines<'_, R>, out: &mut Printer<'_>) {
     }
 }
 
+// `leaves` has the same, over answers of its own kind.
 fn answer(out: &mut Printer<'_>, line: &[u8]) {
     if text::is_silent(line) {
         return;

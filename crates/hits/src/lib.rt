@@ -133,7 +133,7 @@ fn enter_orders(marks: &[u8], n: usize, all: &mut [f32], orders: &mut [u32]) -> 
     true
 }
 
-// Enters the slots below n under a prepared query.
+// Enters the slots below n under a prepared query. Eight parameters: a struct of them would be made for this one call, of what its caller has apart.
 fn enter_slots(
     index: Index,
     arrays: &Lent<'_>,

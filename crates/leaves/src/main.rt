@@ -27,6 +27,7 @@ use rhdh::Rhdh;
 use signs::SignStream;
 use std::io::Read;
 
+// `encodings` begins alike, with buffers of other sizes.
 fn main(rt: HostRuntime) {
     let mut reader = rt.stdin();
     // As long as the longest line that is read, 140,000 bytes, and its newline.
@@ -53,6 +54,7 @@ fn run<R: Read>(lines: &mut Lines<'_, R>, out: &mut Printer<'_>) {
     }
 }
 
+// `encodings` has the same, over answers of its own kind.
 fn answer(out: &mut Printer<'_>, line: &[u8]) {
     if text::is_silent(line) {
         return;
