@@ -17,6 +17,7 @@ ghost use Rattle.std.specs.Prelude.{◌≤◌};
 
 use index::{Added, Index, Lent, LentMut};
 use lines::{Lines, Span, TooLong};
+use print::Printer;
 use refusal::Refusal;
 use runs::InHex;
 use score::Scored;
@@ -27,7 +28,10 @@ fn main(rt: HostRuntime) {
     // As long as the longest line that is read, 140,000 bytes, and its newline.
     let mut buf = [0u8; 140001];
     let mut out = [0u8; 140001];
-    run(&mut Lines::new(&mut reader, &mut buf), &mut out);
+    run(
+        &mut Lines::new(&mut reader, &mut buf),
+        &mut Printer::new(&mut out),
+    );
 }
 
 // How many elements of each array are lent.
@@ -79,7 +83,7 @@ struct State {
 }
 
 // Answers all lines. Nothing says that the input ends, so lines are counted, up to a number that no run uses up.
-fn run<R: Read>(lines: &mut Lines<'_, R>, out: &mut [u8]) {
+fn run<R: Read>(lines: &mut Lines<'_, R>, out: &mut Printer<'_>) {
     let mut state = State {
         index: first_record(),
         lent: Lengths::NONE,
@@ -101,7 +105,7 @@ fn code_bytes() -> [u8; 1048576] {
 // Answers lines over the lent parts of arrays that are all 0, up to the line that lends arrays anew; `None` where the input has ended.
 fn answer_with_fresh<R: Read>(
     lines: &mut Lines<'_, R>,
-    out: &mut [u8],
+    out: &mut Printer<'_>,
     state: State,
 ) -> Option<State> {
     let mut codes = code_bytes();
@@ -137,7 +141,7 @@ fn answer_with_fresh<R: Read>(
 // Answers lines up to the one that lends arrays anew.
 fn answer_lines<R: Read>(
     lines: &mut Lines<'_, R>,
-    out: &mut [u8],
+    out: &mut Printer<'_>,
     arrays: &mut LentMut<'_>,
     first: State,
 ) -> Option<State> {
@@ -157,7 +161,7 @@ fn answer_lines<R: Read>(
 fn turn<R: Read>(
     lines: &Lines<'_, R>,
     found: Result<Span, TooLong>,
-    out: &mut [u8],
+    out: &mut Printer<'_>,
     arrays: &mut LentMut<'_>,
     state: State,
 ) -> State {
@@ -177,10 +181,10 @@ fn turn<R: Read>(
     let m = call.count.min(65536);
     let query = &vector[..n];
     let done = change(call, query, &file[..m], arrays, index);
-    let replied = answer(call, done, query, out, &arrays.view(), index);
-    print::print_line(out, replied.length);
+    let after = answer(call, done, query, out, &arrays.view(), index);
+    out.print_line();
     State {
-        index: replied.index,
+        index: after,
         lent: asked.lent,
         fresh: call.command == Command::Lend,
     }
@@ -694,41 +698,27 @@ fn poke<T: Element>(xs: &mut [T], i: usize, x: u64) -> bool {
 
 // ---- questions
 
-// After a line: the record, and how long the answer in out is.
-#[derive(Drop)]
-struct Replied {
-    index: Index,
-    length: usize,
-}
-
-// Puts the answer to a line into out, after what the line changed.
+// Puts the answer to a line, after what the line changed, and answers the record.
 fn answer(
     call: Call,
     done: Done,
     vector: &[f32],
-    out: &mut [u8],
+    out: &mut Printer<'_>,
     arrays: &Lent<'_>,
     index: Index,
-) -> Replied {
+) -> Index {
     match call.command {
-        Command::Dump => Replied {
-            index,
-            length: dump(out, arrays, index),
-        },
-        Command::Search | Command::SearchCascade => Replied {
-            index,
-            length: list_slots(call, vector, out, arrays, index),
-        },
-        Command::SearchKeyed => Replied {
-            index,
-            length: list_keys(call, vector, out, arrays, index),
-        },
-        Command::Write => Replied {
-            index,
-            length: write_file(call, out, arrays, index),
-        },
-        _ => put_outcome(out, ask(call, done, vector, arrays, index)),
+        Command::Dump => put_dump(out, arrays, index),
+        Command::Search | Command::SearchCascade => list_slots(call, vector, out, arrays, index),
+        Command::SearchKeyed => list_keys(call, vector, out, arrays, index),
+        Command::Write => write_file(call, out, arrays, index),
+        _ => {
+            let outcome = ask(call, done, vector, arrays, index);
+            put_reply(out, outcome.reply);
+            return outcome.index;
+        }
     }
+    index
 }
 
 // The calls that are answered in a word or two and only read the arrays. Any other line says what it did.
@@ -823,27 +813,16 @@ const SCORE_MARK: f32 = 1.0;
 const BYTE_MARK: u8 = 0xFF;
 
 // The slots as numbers of the size of keys.
-fn put_slots(
-    out: &mut [u8],
-    found: Result<usize, Refusal>,
-    slots: &[u32],
-    scores: &[f32],
-) -> usize {
+fn put_slots(out: &mut Printer<'_>, found: Result<usize, Refusal>, slots: &[u32], scores: &[f32]) {
     let mut numbers = [0u64; 4096];
     for (number, slot) in numbers.iter_mut().zip(slots) {
         *number = *slot as u64;
     }
     let n = slots.len().min(4096);
-    put_found(out, found, &numbers[..n], SLOT_MARK as u64, scores)
+    put_found(out, found, &numbers[..n], SLOT_MARK as u64, scores);
 }
 
-fn list_slots(
-    call: Call,
-    vector: &[f32],
-    out: &mut [u8],
-    arrays: &Lent<'_>,
-    index: Index,
-) -> usize {
+fn list_slots(call: Call, vector: &[f32], out: &mut Printer<'_>, arrays: &Lent<'_>, index: Index) {
     let mut slots = [SLOT_MARK; 4096];
     let mut scores = [SCORE_MARK; 4096];
     let n = places(call).min(4096);
@@ -855,21 +834,22 @@ fn list_slots(
         index,
         &mut slots[..n],
         &mut scores[..n],
-    )
+    );
 }
 
 fn search_slots(
     call: Call,
     vector: &[f32],
-    out: &mut [u8],
+    out: &mut Printer<'_>,
     arrays: &Lent<'_>,
     index: Index,
     slots: &mut [u32],
     scores: &mut [f32],
-) -> usize {
+) {
     if call.command == Command::Search {
         let found = search::search(index, arrays, vector, call.a as usize, slots, scores);
-        return put_slots(out, found, slots, scores);
+        put_slots(out, found, slots, scores);
+        return;
     }
     let found = search_cascade::search_cascade(
         index,
@@ -880,11 +860,11 @@ fn search_slots(
         slots,
         scores,
     );
-    put_slots(out, found, slots, scores)
+    put_slots(out, found, slots, scores);
 }
 
 // As `list_slots`, but its places are for keys, of another type, which no other search writes.
-fn list_keys(call: Call, vector: &[f32], out: &mut [u8], arrays: &Lent<'_>, index: Index) -> usize {
+fn list_keys(call: Call, vector: &[f32], out: &mut Printer<'_>, arrays: &Lent<'_>, index: Index) {
     let mut names = [KEY_MARK; 4096];
     let mut scores = [SCORE_MARK; 4096];
     let n = (call.b as usize).min(4096);
@@ -896,31 +876,31 @@ fn list_keys(call: Call, vector: &[f32], out: &mut [u8], arrays: &Lent<'_>, inde
         index,
         &mut names[..n],
         &mut scores[..n],
-    )
+    );
 }
 
 fn search_keys(
     call: Call,
     vector: &[f32],
-    out: &mut [u8],
+    out: &mut Printer<'_>,
     arrays: &Lent<'_>,
     index: Index,
     names: &mut [u64],
     scores: &mut [f32],
-) -> usize {
+) {
     let found = search_keyed::search_keyed(index, arrays, vector, call.a as usize, names, scores);
-    put_found(out, found, names, KEY_MARK, scores)
+    put_found(out, found, names, KEY_MARK, scores);
 }
 
-fn write_file(call: Call, out: &mut [u8], arrays: &Lent<'_>, index: Index) -> usize {
+fn write_file(call: Call, out: &mut Printer<'_>, arrays: &Lent<'_>, index: Index) {
     let mut file = [BYTE_MARK; 65536];
     let n = (call.a as usize).min(65536);
-    write_into(out, arrays, index, &mut file[..n])
+    write_into(out, arrays, index, &mut file[..n]);
 }
 
-fn write_into(out: &mut [u8], arrays: &Lent<'_>, index: Index, file: &mut [u8]) -> usize {
+fn write_into(out: &mut Printer<'_>, arrays: &Lent<'_>, index: Index, file: &mut [u8]) {
     let written = write::to_bytes(index, arrays, file);
-    put_file(out, written, file)
+    put_file(out, written, file);
 }
 
 // How many places a line of the command lends.
@@ -1060,55 +1040,40 @@ fn after_added(added: Result<Added, Refusal>, index: Index) -> Outcome {
     }
 }
 
-fn put_outcome(out: &mut [u8], outcome: Outcome) -> Replied {
-    Replied {
-        index: outcome.index,
-        length: put_reply(out, outcome.reply),
-    }
-}
-
-fn put_reply(out: &mut [u8], reply: Reply) -> usize {
+fn put_reply(out: &mut Printer<'_>, reply: Reply) {
     match reply {
         Reply::Slot(i) => put_with(out, b"slot ", i as u64, 1),
         Reply::Key(k) => put_with(out, b"key ", k, 1),
         Reply::Length(n) => put_with(out, b"length ", n as u64, 1),
         Reply::Score(x) => put_with(out, b"score ", x as u64, 8),
-        Reply::Refused(n) => put_refused(out, 0, n),
-        _ => put_word(out, reply),
-    }
-}
-
-// A reply without a number.
-fn put_word(out: &mut [u8], reply: Reply) -> usize {
-    match reply {
-        Reply::Silent => 0,
-        Reply::Ok => print::put_bytes(out, 0, b"ok"),
-        Reply::Yes => print::put_bytes(out, 0, b"yes"),
-        Reply::No => print::put_bytes(out, 0, b"no"),
-        Reply::None => print::put_bytes(out, 0, b"none"),
-        _ => print::put_byte(out, 0, print::UNREADABLE),
+        Reply::Refused(n) => put_refused(out, n),
+        Reply::Silent => {}
+        Reply::Ok => out.put_bytes(b"ok"),
+        Reply::Yes => out.put_bytes(b"yes"),
+        Reply::No => out.put_bytes(b"no"),
+        Reply::None => out.put_bytes(b"none"),
+        Reply::Unreadable => out.put_byte(print::UNREADABLE),
     }
 }
 
 // A word and a number, in so many digits at least.
-fn put_with(out: &mut [u8], word: &[u8], number: u64, digits: usize) -> usize {
-    let at = print::put_bytes(out, 0, word);
-    numerals::put_hex(out, at, number, digits)
+fn put_with(out: &mut Printer<'_>, word: &[u8], number: u64, digits: usize) {
+    out.put_bytes(word);
+    numerals::put_hex(out, number, digits);
 }
 
-fn put_refused(out: &mut [u8], at: usize, number: u8) -> usize {
-    let next = print::put_bytes(out, at, b"refused ");
-    numerals::put_decimal(out, next, number as u64)
+fn put_refused(out: &mut Printer<'_>, number: u8) {
+    out.put_bytes(b"refused ");
+    numerals::put_decimal(out, number as u64);
 }
 
 // ---- results in words
 
-// Says that a place past the answer was changed. Returns where the answer begins.
-fn put_spilt(out: &mut [u8], kept: bool) -> usize {
-    if kept {
-        return 0;
+// Says where a place past the answer was changed, before the answer.
+fn put_spilt(out: &mut Printer<'_>, kept: bool) {
+    if !kept {
+        out.put_bytes(b"spilt ");
     }
-    print::put_bytes(out, 0, b"spilt ")
 }
 
 // Whether the places from n on hold their mark.
@@ -1116,130 +1081,96 @@ fn kept<T: PartialEq + Copy>(xs: &[T], n: usize, mark: T) -> bool {
     xs.iter().skip(n).all(|x| *x == mark)
 }
 
-fn put_hit(out: &mut [u8], at: usize, number: u64, score: f32) -> usize {
-    let a = print::put_byte(out, at, b' ');
-    let b = numerals::put_hex(out, a, number, 1);
-    let c = print::put_byte(out, b, b':');
-    numerals::put_hex(out, c, pattern::to_bits(score) as u64, 8)
+fn put_hit(out: &mut Printer<'_>, number: u64, score: f32) {
+    out.put_byte(b' ');
+    numerals::put_hex(out, number, 1);
+    out.put_byte(b':');
+    numerals::put_hex(out, pattern::to_bits(score) as u64, 8);
 }
 
-fn put_hits(out: &mut [u8], at: usize, numbers: &[u64], scores: &[f32], n: usize) -> usize {
-    let mut next = print::put_bytes(out, at, b"list");
+fn put_hits(out: &mut Printer<'_>, numbers: &[u64], scores: &[f32], n: usize) {
+    out.put_bytes(b"list");
     for (number, score) in numbers.iter().zip(scores).take(n) {
-        next = put_hit(out, next, *number, *score);
+        put_hit(out, *number, *score);
     }
-    next
 }
 
 fn put_found(
-    out: &mut [u8],
+    out: &mut Printer<'_>,
     found: Result<usize, Refusal>,
     numbers: &[u64],
     mark: u64,
     scores: &[f32],
-) -> usize {
+) {
     let taken = found.unwrap_or(0);
-    let at = put_spilt(
+    put_spilt(
         out,
         kept(numbers, taken, mark) && kept(scores, taken, SCORE_MARK),
     );
     match found {
-        Ok(n) => put_hits(out, at, numbers, scores, n),
-        Err(refusal) => put_refused(out, at, u8::from(refusal)),
+        Ok(n) => put_hits(out, numbers, scores, n),
+        Err(refusal) => put_refused(out, u8::from(refusal)),
     }
 }
 
-fn put_file(out: &mut [u8], written: Result<usize, Refusal>, file: &[u8]) -> usize {
+fn put_file(out: &mut Printer<'_>, written: Result<usize, Refusal>, file: &[u8]) {
+    put_spilt(out, kept(file, written.unwrap_or(0), BYTE_MARK));
     match written {
         Ok(n) => {
-            let at = put_spilt(out, kept(file, n, BYTE_MARK));
-            let next = print::put_bytes(out, at, b"bytes ");
-            runs::put_run(out, next, &file[..n.min(file.len())])
+            out.put_bytes(b"bytes ");
+            runs::put_run(out, &file[..n.min(file.len())]);
         }
-        Err(refusal) => {
-            let at = put_spilt(out, kept(file, 0, BYTE_MARK));
-            put_refused(out, at, u8::from(refusal))
-        }
+        Err(refusal) => put_refused(out, u8::from(refusal)),
     }
 }
 
 // ---- dump
 
-// Prints the record and the arrays piece by piece, but for the newline. Nothing is left in out.
-fn dump(out: &mut [u8], arrays: &Lent<'_>, index: Index) -> usize {
-    let n = put_record(out, index);
-    flush(out, n);
-    print_array(out, b" codes ", arrays.codes);
-    print_array(out, b" scales ", arrays.scales);
-    print_array(out, b" keys ", arrays.keys);
-    print_array(out, b" keyed ", arrays.keyed);
-    print_array(out, b" held ", arrays.held);
-    print_array(out, b" alive ", arrays.alive);
-    print_array(out, b" codes2 ", arrays.codes2);
-    print_array(out, b" scales2 ", arrays.scales2);
-    0
+// The record and the arrays. What there is of it is written out wherever it is much.
+fn put_dump(out: &mut Printer<'_>, arrays: &Lent<'_>, index: Index) {
+    put_record(out, index);
+    put_array(out, b" codes ", arrays.codes);
+    put_array(out, b" scales ", arrays.scales);
+    put_array(out, b" keys ", arrays.keys);
+    put_array(out, b" keyed ", arrays.keyed);
+    put_array(out, b" held ", arrays.held);
+    put_array(out, b" alive ", arrays.alive);
+    put_array(out, b" codes2 ", arrays.codes2);
+    put_array(out, b" scales2 ", arrays.scales2);
 }
 
-fn put_record(out: &mut [u8], index: Index) -> usize {
-    let at = print::put_bytes(out, 0, b"record");
-    let middle = put_four(
-        out,
-        at,
-        index.dim as u64,
-        index.working_dim as u64,
-        index.seed,
-        index.bits as u64,
-    );
-    put_four(
-        out,
-        middle,
-        index.residual as u64,
-        index.n as u64,
-        index.live as u64,
-        index.cascade as u64,
-    )
+fn put_record(out: &mut Printer<'_>, index: Index) {
+    out.put_bytes(b"record");
+    put_field(out, index.dim as u64);
+    put_field(out, index.working_dim as u64);
+    put_field(out, index.seed);
+    put_field(out, index.bits as u64);
+    put_field(out, index.residual as u64);
+    put_field(out, index.n as u64);
+    put_field(out, index.live as u64);
+    put_field(out, index.cascade as u64);
 }
 
-fn put_four(out: &mut [u8], at: usize, a: u64, b: u64, c: u64, d: u64) -> usize {
-    let i = put_field(out, at, a);
-    let j = put_field(out, i, b);
-    let k = put_field(out, j, c);
-    put_field(out, k, d)
-}
-
-fn put_field(out: &mut [u8], at: usize, x: u64) -> usize {
-    let next = print::put_byte(out, at, b' ');
-    numerals::put_hex(out, next, x, 1)
+fn put_field(out: &mut Printer<'_>, x: u64) {
+    out.put_byte(b' ');
+    numerals::put_hex(out, x, 1);
 }
 
 // The name of an array and its elements, so many digits each; `-` where there is none.
-fn print_array<T: InHex + Copy>(out: &mut [u8], name: &[u8], xs: &[T]) {
-    let mut at = put_name(out, name, xs.len());
+fn put_array<T: InHex + Copy>(out: &mut Printer<'_>, name: &[u8], xs: &[T]) {
+    out.put_bytes(name);
+    if xs.is_empty() {
+        out.put_byte(b'-');
+    }
     for x in xs {
-        let next = make_room(out, at);
-        at = numerals::put_hex(out, next, x.number(), T::DIGITS);
+        make_room(out);
+        numerals::put_hex(out, x.number(), T::DIGITS);
     }
-    flush(out, at);
 }
 
-fn put_name(out: &mut [u8], name: &[u8], n: usize) -> usize {
-    let at = print::put_bytes(out, 0, name);
-    if n == 0 {
-        return print::put_byte(out, at, b'-');
+// Writes out what is printed where it is much, so that the next element has room, and the next array's name.
+fn make_room(out: &mut Printer<'_>) {
+    if 100000 <= out.text().len() {
+        out.flush();
     }
-    at
-}
-
-// Writes the first n bytes of out to standard output.
-fn flush(out: &[u8], n: usize) {
-    io::write_all(1, &out[..n.min(out.len())]);
-}
-
-// The place for another element, after what there is has been written out, if it is much.
-fn make_room(out: &[u8], at: usize) -> usize {
-    if at < 100000 {
-        return at;
-    }
-    flush(out, at);
-    0
 }
