@@ -181,10 +181,10 @@ fn turn<R: Read>(
     let m = call.count.min(65536);
     let query = &vector[..n];
     let done = change(call, query, &file[..m], arrays, index);
-    let after = answer(call, done, query, out, &arrays.view(), index);
+    let next = answer(call, done, query, out, &arrays.view(), index);
     out.print_line();
     State {
-        index: after,
+        index: next,
         lent: asked.lent,
         fresh: call.command == Command::Lend,
     }
@@ -708,7 +708,7 @@ fn answer(
     index: Index,
 ) -> Index {
     match call.command {
-        Command::Dump => put_dump(out, arrays, index),
+        Command::Dump => dump(out, arrays, index),
         Command::Search | Command::SearchCascade => list_slots(call, vector, out, arrays, index),
         Command::SearchKeyed => list_keys(call, vector, out, arrays, index),
         Command::Write => write_file(call, out, arrays, index),
@@ -1127,7 +1127,7 @@ fn put_file(out: &mut Printer<'_>, written: Result<usize, Refusal>, file: &[u8])
 // ---- dump
 
 // The record and the arrays. What there is of it is written out wherever it is much.
-fn put_dump(out: &mut Printer<'_>, arrays: &Lent<'_>, index: Index) {
+fn dump(out: &mut Printer<'_>, arrays: &Lent<'_>, index: Index) {
     put_record(out, index);
     put_array(out, b" codes ", arrays.codes);
     put_array(out, b" scales ", arrays.scales);
