@@ -1,12 +1,12 @@
 -- The lines of a listing, put one piece after the other.
-use mathlib.Core.Path.{◌≡◌, refl, ◌∙◌}
+use mathlib.Core.Path.{◌≡◌, ◌∙◌}
 use mathlib.Core.Bool.{Bool, true, false}
-use mathlib.Core.List.{List, [], ◌∷◌, ◌++◌, append-nil}
-use Prim.Native.Nat.{ℕ, ◌+◌, ◌/◌, ◌%◌, ◌≤◌, ◌<◌}
+use mathlib.Core.List.{List, [], ◌∷◌, append-nil}
+use Prim.Native.Nat.{ℕ, ◌+◌, ◌≤◌, ◌<◌}
 use native.Mathlib.Nat.{le_antisymm}
 use native.Mathlib.Numerals.{add-one}
 use native.Mathlib.Omega.{arith}
-use lib.ListN.{length, get_or}
+use lib.ListN.{get_or}
 use Rattle.lists.specs.Lists.{tab, joined}
 use Rattle.print.specs.declared.Printer.{Printer}
 use Rattle.print.specs.Printer.{Printed}
@@ -15,7 +15,7 @@ use Rattle.numerals.specs.Numerals.{decimal_text}
 use Rattle.slot_keys.specs.Has.{key_at}
 use Rattle.encode.specs.declared.Header.{Header}
 use Rattle.index.proofs.Blocks.{joined-append}
-use Rattle.listed.specs.Listing.{head_line, key_text, upper_digit, half_text}
+use Rattle.listed.specs.Listing.{head_line, key_text}
 
 -- ---- pieces
 
