@@ -23,9 +23,7 @@ def functions(text):
         if not end:
             continue
         whole = text[at : end.end()]
-        cut = re.search(r"\{\n(?=\s*(?!ensures|requires))|^%s\{$" % indent, whole, re.M)
-        last = list(re.finditer(r"^%s\{$|\) (?:-> [^{\n]*)?\{$" % indent, whole, re.M))
-        cut = last[0] if last else cut
+        cut = re.search(r"^%s\{$|\) (?:-> [^{\n]*)?\{$" % indent, whole, re.M)
         out.append((name, whole[: cut.start() if cut else 0], whole[cut.end() if cut else 0 :]))
     return out
 
