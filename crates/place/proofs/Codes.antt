@@ -40,7 +40,7 @@ use Rattle.index.specs.Step.{Item}
 use Rattle.index.specs.Sound.{block_length, Ranged}
 use Rattle.index.proofs.Encoded.{encoded-shaped}
 use Rattle.fit.proofs.Rooms.{in-width}
-use Rattle.place.specs.Place.{recoded, put_code, with_codes, Codable}
+use Rattle.place.specs.Place.{recoded, put_code, with_stages, Codable}
 
 -- ---- a header in range
 
@@ -160,7 +160,7 @@ module _ (h : Header) (a : Arrays) (i : ℕ) (v : Item) (ok : Codable h a i v) w
   -- both stages over the places of the slot, or the first alone
   abbrev put_stages : Bool → Stages → Arrays
   put_stages both t =
-      with_codes a (splice (i * size) t.first.block a.codes) (set a.scales i t.first.scale)
+      with_stages a (splice (i * size) t.first.block a.codes) (set a.scales i t.first.scale)
       (cond both (splice (i * size) t.second.block a.codes2) a.codes2) (cond both (set a.scales2 i t.second.scale) a.scales2)
 
   put-stages : (fresh r : Bool) → h.residual ≡ r → (block2 : List ℕ) → put_stages r (placed (code fresh) block2) ≡ put_code h a fresh i v
@@ -187,22 +187,22 @@ module _ (h : Header) (a : Arrays) (i : ℕ) (v : Item) (ok : Codable h a i v) w
 
   module _ (fresh : Bool) (g : Scales) (block block2 : List ℕ) where
     residual-at : h.residual ≡ true → stages g block block2 ≡ encoded_into (table_of h) h fresh v (part size a.codes) (part size a.codes2) →
-        with_codes a (put_part size a.codes block) (set a.scales i g.scale) (put_part size a.codes2 block2) (set a.scales2 i g.scale2) ≡ put_code h a fresh i v
+        with_stages a (put_part size a.codes block) (set a.scales i g.scale) (put_part size a.codes2 block2) (set a.scales2 i g.scale2) ≡ put_code h a fresh i v
     residual-at e s =
         let b2 = block_at size i a.codes2 in
         let t : stages g block block2 ≡ placed (code fresh) b2 =
         s ∙ (λ j. encoded_into (table_of h) h fresh v (part-block a.codes ends j) (part-block a.codes2 (ends2 e) j)) ∙ into fresh true e b2 (λ _. refl) in
         let one = mid-splice (i * size) size a.codes block (ap (λ (u : Stages). length u.first.block) t ∙ first-size fresh b2) in
         let two = mid-splice (i * size) size a.codes2 block2 (ap (λ (u : Stages). length u.second.block) t ∙ second-size fresh b2 e) in
-        (λ j. with_codes a (one j) (set a.scales i g.scale) (two j) (set a.scales2 i g.scale2)) ∙ ap (put_stages true) t ∙ put-stages fresh true e b2
+        (λ j. with_stages a (one j) (set a.scales i g.scale) (two j) (set a.scales2 i g.scale2)) ∙ ap (put_stages true) t ∙ put-stages fresh true e b2
 
     plain_at : h.residual ≡ false → stages g block block2 ≡ encoded_into (table_of h) h fresh v (part size a.codes) [] →
-        with_codes a (put_part size a.codes block) (set a.scales i g.scale) a.codes2 a.scales2 ≡ put_code h a fresh i v
+        with_stages a (put_part size a.codes block) (set a.scales i g.scale) a.codes2 a.scales2 ≡ put_code h a fresh i v
     plain_at e s =
         let t : stages g block block2 ≡ placed (code fresh) [] =
         s ∙ ap (λ (b : List ℕ). encoded_into (table_of h) h fresh v b []) (part-block a.codes ends) ∙ into fresh false e [] (λ f. absurd (subst T (sym f) tt)) in
         let one = mid-splice (i * size) size a.codes block (ap (λ (u : Stages). length u.first.block) t ∙ first-size fresh []) in
-        (λ j. with_codes a (one j) (set a.scales i g.scale) a.codes2 a.scales2) ∙ ap (put_stages false) t ∙ put-stages fresh false e []
+        (λ j. with_stages a (one j) (set a.scales i g.scale) a.codes2 a.scales2) ∙ ap (put_stages false) t ∙ put-stages fresh false e []
 
   -- ---- as the program meets it, b being the size that it works out
 
@@ -218,9 +218,9 @@ module _ (h : Header) (a : Arrays) (i : ℕ) (v : Item) (ok : Codable h a i v) w
 
     module _ (fresh : Bool) (g : Scales) (block block2 : List ℕ) where
       pub put-residual : h.residual ≡ true → stages g block block2 ≡ encoded_into (table_of h) h fresh v (part b a.codes) (part b a.codes2) →
-          with_codes a (put_part b a.codes block) (set a.scales i g.scale) (put_part b a.codes2 block2) (set a.scales2 i g.scale2) ≡ put_code h a fresh i v
+          with_stages a (put_part b a.codes block) (set a.scales i g.scale) (put_part b a.codes2 block2) (set a.scales2 i g.scale2) ≡ put_code h a fresh i v
       put-residual e s = rw is (residual-at fresh g block block2 e (rw is at s))
 
       pub put-plain : h.residual ≡ false → stages g block block2 ≡ encoded_into (table_of h) h fresh v (part b a.codes) [] →
-          with_codes a (put_part b a.codes block) (set a.scales i g.scale) a.codes2 a.scales2 ≡ put_code h a fresh i v
+          with_stages a (put_part b a.codes block) (set a.scales i g.scale) a.codes2 a.scales2 ≡ put_code h a fresh i v
       put-plain e s = rw is (plain_at fresh g block block2 e (rw is at s))

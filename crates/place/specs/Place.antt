@@ -19,15 +19,15 @@ unfoldable pub recoded : Header → (fresh : Bool) → (old : Code) → Item →
 recoded h fresh old v = encoded h (cond fresh no_spare (spare_of h old)) v
 
 -- the arrays with other codes and scales
-abbrev pub with_codes : Arrays → (codes scales codes2 scales2 : List ℕ) → Arrays
-with_codes a b c d e = lent b c a.keys a.keyed a.held a.alive d e
+abbrev pub with_stages : Arrays → (codes scales codes2 scales2 : List ℕ) → Arrays
+with_stages a b c d e = lent b c a.keys a.keyed a.held a.alive d e
 
 -- the code of a vector in the places of a slot, all else kept
 unfoldable pub put_code : Header → Arrays → (fresh : Bool) → (i : ℕ) → Item → Arrays
 put_code h a fresh i v =
     let s = slot_at h a i in
     let b = put_slot h a i (with_code s (recoded h fresh s.code v)) in
-    with_codes a b.codes b.scales b.codes2 b.scales2
+    with_stages a b.codes b.scales b.codes2 b.scales2
 
 -- the mark of a slot in its places, all else kept
 unfoldable pub put_mark : Arrays → (i : ℕ) → Mark → Arrays

@@ -12,7 +12,7 @@ use borrow.Author.Tests.{le-leb, lt-leb, lt-ltb, ltb-true, ltb-false, ne_eqb}
 use lib.Dec.{ltb, lit<}
 use lib.ListN.{length, get_or, length-append, get_or-append}
 use Rattle.io.specs.Digits.{hex_digit_ascii, last_digits, IsDigitCount}
-use Rattle.values.specs.Reading.{digit_of, are_digits, value_after, value_of, leads_with_zero, is_number, number_of}
+use Rattle.values.specs.Reading.{digit_of, are_digits, value_after, value_of, leads_with_zero, is_number, number_at_most}
 use Rattle.values.proofs.Digits.{first-digit}
 
 -- ---- one digit
@@ -94,8 +94,8 @@ sixteen k n f h = go (ltb 16 k) refl
         let big : 16 ^ 16 ≤ n = le_trans (pow-le-pow_right {n = 16} (lit< tt) {i = 16} {j = k - 1} (omega arith)) (f.2 (omega arith)) in
         absurd (omega arith)
 
-pub read_back : (k n most : ℕ) → IsDigitCount 16 1 n k → n ≤ most → most < 2 ^ 64 → number_of most (last_digits 16 k n) ≡ Some n
-unfolding number_of is_number
+pub read_back : (k n most : ℕ) → IsDigitCount 16 1 n k → n ≤ most → most < 2 ^ 64 → number_at_most most (last_digits 16 k n) ≡ Some n
+unfolding number_at_most is_number
 read_back k n most f h m =
     let long = digits-length k n in
     simp

@@ -42,8 +42,8 @@ abbrev pub digits_read : List ℕ → Option ℕ
 digits_read ds = cond (are_digits ds) (Some (value_of ds)) None
 
 -- the number that the field is, where it is one of at most `most`
-unfoldable pub number_of : ℕ → List ℕ → Option ℕ
-number_of most f = cond (is_number f && leb (value_of f) most) (Some (value_of f)) None
+unfoldable pub number_at_most : ℕ → List ℕ → Option ℕ
+number_at_most most f = cond (is_number f && leb (value_of f) most) (Some (value_of f)) None
 
 -- ---- vectors and bytes: elements of w digits each
 
@@ -79,8 +79,8 @@ bytes_of f n = tab (element_of 2 f) n
 -- ---- worked by hand
 
 -- `1f` is 31, which is not at most 30; `0` is 0, and `01` is no number
-number-worked : (number_of 31 (49 ∷ 102 ∷ []) ≡ Some 31) × (number_of 30 (49 ∷ 102 ∷ []) ≡ None) × (number_of 0 (48 ∷ []) ≡ Some 0) × (number_of 9 (48 ∷ 49 ∷ []) ≡ None)
-unfolding number_of is_number leads_with_zero digit_of
+number-worked : (number_at_most 31 (49 ∷ 102 ∷ []) ≡ Some 31) × (number_at_most 30 (49 ∷ 102 ∷ []) ≡ None) × (number_at_most 0 (48 ∷ []) ≡ Some 0) × (number_at_most 9 (48 ∷ 49 ∷ []) ≡ None)
+unfolding number_at_most is_number leads_with_zero digit_of
 number-worked = (refl, refl, refl, refl)
 
 -- `0aff` is the two bytes 10 and 255, `-` is none, and `0af` is no run of bytes

@@ -8,11 +8,11 @@ ghost use Rattle.std.specs.Float.Ieee.{of_bits};
 ghost use Rattle.std.proofs.Common.{rules};
 ghost use Rattle.lists.specs.Lists.{tab, over};
 ghost use Rattle.text.specs.Fields.{field_at};
-ghost use Rattle.values.specs.Reading.{digit_of, are_digits, digits_read, leads_with_zero, number_of, is_run, run_of, IsRun, element_of, floats_of, bytes_of};
+ghost use Rattle.values.specs.Reading.{digit_of, are_digits, digits_read, leads_with_zero, number_at_most, is_run, run_of, IsRun, element_of, floats_of, bytes_of};
 
 // Field i as a number: 1 to 16 digits, the first of several not 0, of a value of at most `most`.
 pub fn number_at(line: &[u8], i: usize, most: u64) -> Option<u64>
-    ensures number { result ≡ number_of most (field_at line.now i) }
+    ensures number { result ≡ number_at_most most (field_at line.now i) }
     ensures bound { IfSome result (λ n. n ≤ most) }
 {
     read_number(text::field(line, i), most)
@@ -42,9 +42,9 @@ pub fn bytes_at(line: &[u8], i: usize, out: &mut [u8]) -> Option<usize>
 
 // ---- numbers
 
-#[tactic(auto, unfolding(crate::specs::Reading::number_of, crate::specs::Reading::is_number))]
+#[tactic(auto, unfolding(crate::specs::Reading::number_at_most, crate::specs::Reading::is_number))]
 fn read_number(field: &[u8], most: u64) -> Option<u64>
-    ensures value { result ≡ number_of most field.now }
+    ensures value { result ≡ number_at_most most field.now }
     ensures bound { IfSome result (λ n. n ≤ most) }
 {
     if field.is_empty() || 16 < field.len() || leads_with_zero(field) {
