@@ -50,7 +50,7 @@ impl Hits<'_> {
         many
     }
 
-    // Writes those of the first n places that are the first of their keys, and returns how many they are.
+    // Writes those of the first n places that are the first of their keys, and returns how many they are. Names and scores are two slices, since C lends them so.
     fn write_firsts(&self, before: &[u32], names: &mut [u64], scores: &mut [f32], n: usize) -> usize
         requires lists { (n ≤ length self.now.slots.now) × (n ≤ length self.now.scores.now) × (n ≤ length before.now) }
         requires room { (n ≤ length names.old) × (n ≤ length scores.old) }

@@ -22,7 +22,8 @@ pub struct Header {
     pub residual: bool,
 }
 
-// The scales of a slot as binary32 patterns. The second is that of the residual codes, and 0 where there are none.
+// The scales of a slot as binary32 patterns. The second is that of the residual codes, and 0 where there are none:
+// an Option would take twice the places in what is returned and add a case that `residual` tells already.
 #[derive(Clone, Copy)]
 pub struct Scales {
     pub scale: u32,
@@ -128,7 +129,8 @@ struct ThreeSums {
     second: f32,
 }
 
-// The three sums, each in index order. In one loop, since an addition waits for the one before it in its own sum only.
+// The three sums, each in index order. In one loop, since an addition waits for the one before it in its own sum only; by index in `e`, since of a zip
+// the proof would have to say first what it has yielded.
 fn sum_up(d: &[f32], e: &[f32]) -> ThreeSums
     requires { length e.now ≡ length d.now }
     ensures first { result.first ≡ sum_squares d.now }

@@ -23,6 +23,7 @@ use runs::InHex;
 use score::Scored;
 use std::io::Read;
 
+// `encodings` and `leaves` begin alike, with buffers of other sizes.
 fn main(rt: HostRuntime) {
     let mut reader = rt.stdin();
     // As long as the longest line that is read, 140,000 bytes, and its newline.
@@ -408,7 +409,7 @@ impl Command {
     }
 }
 
-// A line's command, its numbers, and how many entries or bytes come after them; 0 for what the line hasn't.
+// A line's command, its numbers, and how many entries or bytes come after them; 0 for what the line hasn't: which it has is said by its command.
 #[derive(Clone, Copy)]
 struct Call {
     command: Command,

@@ -50,8 +50,8 @@ fn live_total(alive: &[u8]) -> usize
     ensures { result ≡ live_marks alive.now (length alive.now) }
 {
     let mut many: u32 = 0;
-    for i in 0..alive.len() {
-        many += marks::live_mark(alive, i) as u32;
+    for mark in alive {
+        many += *mark as u32;
     }
     many as usize
 }

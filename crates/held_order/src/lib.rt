@@ -17,7 +17,7 @@ fn number(held: &mut [u32])
     }
 }
 
-// The position after that of an entry's slot; 0 where there is no entry.
+// The position after that of an entry's slot; 0 where there is no entry. An entry is a place plus one, as previous writes it, and 0 for none.
 fn next_position(held: &[u32], entry: usize) -> u32
     requires { (entry ≤ length held.now) × ((j : ℕ) → entry ≡ suc j → get_or held.now j 0 < 65536) }
     ensures { result ≡ after_entry held.now entry }

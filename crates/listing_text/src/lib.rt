@@ -104,6 +104,7 @@ fn put_head(out: &mut Printer<'_>, file: &[u8])
     out.put_byte(b'\n');
 }
 
+// `keys` and `keyed` are two slices, here and below: a struct of the two would be made for this one walk.
 fn put_key(out: &mut Printer<'_>, keys: &[u64], keyed: &[bool], slot: usize)
     ensures { Printed (key_text (key_at keys.now keyed.now slot)) out.old out.new }
 {

@@ -21,7 +21,7 @@ pub fn is_live(alive: &[u8], slot: usize) -> bool
     0 < live_mark(alive, slot)
 }
 
-// Marks a slot as live or as dead; nothing past the end.
+// Marks a slot as live or as dead; nothing past the end. By a test and an index: of what get_mut lends nothing is known after the write.
 pub fn set_live_mark(alive: &mut [u8], slot: usize, live: bool)
     ensures { alive.new ≡ set alive.old slot (bit live) }
 {

@@ -14,13 +14,12 @@ use index::Index;
 // ---- the query
 
 // Writes the top two bits of the code, by a table, of each of the first `lanes` entries of a prepared query.
-// By index, here and below: a write through iter_mut says nothing of the entries after the last.
 fn write_tops(boundaries: &[f32], query: &[f32], rnorm: f32, lanes: usize, tops: &mut [u8])
     requires { (length boundaries.now ≤ 15) × (lanes ≤ length query.now) × (lanes ≤ length tops.old) }
     ensures { tops.new ≡ over (tab (λ i. top_of boundaries.now rnorm (get_or query.now i nan)) lanes) tops.old }
 {
-    for lane in 0..lanes {
-        tops[lane] = counting::quantize_in(boundaries, query[lane] * rnorm) as u8 / 4;
+    for (lane, top) in tops[..lanes].iter_mut().enumerate() {
+        *top = counting::quantize_in(boundaries, query[lane] * rnorm) as u8 / 4;
     }
 }
 
@@ -29,8 +28,8 @@ fn every_second(tops: &[u8], first: usize, n: usize, out: &mut [u8])
     requires { (first ≤ 1) × (n * 2 ≤ length tops.now) × (n ≤ length out.old) }
     ensures { out.new ≡ over (tab (λ i. get_or tops.now (i * 2 + first) 0) n) out.old }
 {
-    for i in 0..n {
-        out[i] = tops[i * 2 + first];
+    for (i, top) in out[..n].iter_mut().enumerate() {
+        *top = tops[i * 2 + first];
     }
 }
 
@@ -122,8 +121,8 @@ impl Tops<'_> {
         requires { n ≤ length distances.old }
         ensures { distances.new ≡ over (tab (slot_apart codes.now alive.now size self.now.all.now self.now.lanes) n) distances.old }
     {
-        for slot in 0..n {
-            distances[slot] = self.slot_distance(codes, alive, size, slot);
+        for (slot, distance) in distances[..n].iter_mut().enumerate() {
+            *distance = self.slot_distance(codes, alive, size, slot);
         }
     }
 }

@@ -71,16 +71,15 @@ impl Limit {
         distance < self.distance || distance == self.distance && seen < self.ties
     }
 
-    // Marks the slots that are within the limit. By index: a write through iter_mut says nothing of the marks after the last.
+    // Marks the slots that are within the limit.
     fn mark(self, distances: &[u32], marks: &mut [u8])
         requires { length distances.now ≤ length marks.old }
         ensures { marks.new ≡ over (tab (λ i. bit (is_marked distances.now self.distance self.ties i)) (length distances.now)) marks.old }
     {
         let mut seen: usize = 0;
-        for slot in 0..distances.len() {
-            let distance = distances[slot];
-            marks[slot] = self.is_marked(distance, seen) as u8;
-            seen += (distance == self.distance) as usize;
+        for (slot, distance) in distances.iter().enumerate() {
+            marks[slot] = self.is_marked(*distance, seen) as u8;
+            seen += (*distance == self.distance) as usize;
         }
     }
 }

@@ -373,7 +373,7 @@ impl<'a> Tabled<'a> {
             ⊗ of_bits binary32 (get_or self.now.of.scales.now i 0)) self.now.of.marks.now self.now.of.second)
             first (first + many) all.old all.new }
     {
-        // By index: a write through iter_mut says nothing of the entries outside the group.
+        // By index: what is read of `sums` and `scales` goes by it too, and of a part of `all` the promise would have to be put together from the part again.
         for k in 0..many {
             all[first + k] = self.group_entry(sums, first, k, all[first + k]);
         }
@@ -429,6 +429,7 @@ impl<'a> Stage<'a> {
         requires { self.now.n ≤ length all.old }
         ensures { Scores self.now all.old all.new }
     {
+        // By index: over a part of `all` the promise would have to be put together from the part again.
         for i in 0..self.n {
             all[i] = self.plain_entry(i, all[i]);
         }
@@ -492,7 +493,8 @@ impl<'a> Stage<'a> {
 }
 
 // The scores of a stage of the marked slots below n, each in its slot's place; for a second stage they are added to what stands there. Where there
-// are fewer places than slots, nothing is written. The parameters come one by one: `Stage`, which is made from them first thing, is private.
+// are fewer places than slots, nothing is written. The parameters come one by one: its one caller (hits) has each from another place, so that a public struct would be
+// filled for each call only.
 pub fn stage_scores(
     bits: u8,
     centroids: &[f32],

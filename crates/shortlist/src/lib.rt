@@ -68,6 +68,7 @@ fn put(places: &mut [u32], i: usize, x: u32)
 }
 
 // Writes the slots of the shortlist and their order numbers, as far as there are places, and returns how many there are.
+// In two arrays, since the choice takes the order numbers alone as a slice.
 fn shorten(orders: &[u32], t: u32, n: usize, names: &mut [u32], numbers: &mut [u32]) -> usize
     requires { length orders.now ≤ 65536 }
     ensures { (result ≡ length (shortened n t orders.now))

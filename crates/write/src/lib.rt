@@ -72,7 +72,7 @@ impl Writer<'_> {
         self.put_bytes(codes::slot_codes(codes, slot, block));
     }
 
-    // The key entry, under the slot's number among the live ones.
+    // The key entry, under the slot's number among the live ones. It reads three of the arrays, as its clause says, here and below.
     fn put_entry(&mut self, keys: &[u64], keyed: &[bool], alive: &[u8], slot: usize, number: usize)
         requires { Room (cond (entry_at keyed.now alive.now slot) (le_bytes 4 number ++ le_bytes 8 (get_or keys.now slot 0)) []) self.old }
         ensures { Put (cond (entry_at keyed.now alive.now slot) (le_bytes 4 number ++ le_bytes 8 (get_or keys.now slot 0)) []) self.old self.new }

@@ -5,5 +5,5 @@ use Rattle.fit.specs.Fits.{live_marks}
 use Rattle.fit.proofs.live_total.Given as goal
 
 -- `fit::live_total` meets its contract.
-abbrev pub invariant-loop-i : goal.invariant-loop-i
-invariant-loop-i l = (l.i ≤ length l.alive) × (l.many ≤ l.i) × (l.many ≡ live_marks l.alive l.i)
+abbrev pub invariant-loop-mark : goal.invariant-loop-mark
+invariant-loop-mark l = (l.mark-index ≤ length l.alive) × (l.many ≤ l.mark-index) × (l.many ≡ live_marks l.alive l.mark-index)
