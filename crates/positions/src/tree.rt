@@ -1,6 +1,6 @@
 // Whether positions are in order, by a tree in which the keyed slots are entered. The tree is an array of slots, and its branches are places in it, since there is
-// no heap: a place holds a slot plus one, or 0 where it is free, since an Option would take twice the places. The slot that holds a position of a key is found there in a few steps, and in at most 64
-// whatever the keys are.
+// no heap: a place holds a slot plus one, or 0 where it is free, since an Option would take twice the places. The slot that holds a position of a key is found
+// there in a few steps, and in at most 64 whatever the keys are.
 ghost use Rattle.std.specs.Prelude.{◌≡◌, ℕ, suc, ◌+◌, ◌-◌, ◌*◌, ◌^◌, ◌≤◌, ◌<◌, length, get_or};
 ghost use Rattle.positions.specs.Decides.{Decides};
 ghost use Rattle.positions.specs.Lent.{keys_of};

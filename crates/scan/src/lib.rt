@@ -493,8 +493,8 @@ impl<'a> Stage<'a> {
 }
 
 // The scores of a stage of the marked slots below n, each in its slot's place; for a second stage they are added to what stands there. Where there
-// are fewer places than slots, nothing is written. The parameters come one by one: its one caller (hits) has each from another place, so that a public struct would be
-// filled for each call only.
+// are fewer places than slots, nothing is written. The parameters come one by one: its one caller (hits) has each from another place, so that a public struct
+// would be filled for each call only.
 pub fn stage_scores(
     bits: u8,
     centroids: &[f32],
