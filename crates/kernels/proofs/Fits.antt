@@ -5,7 +5,7 @@ use mathlib.Core.List.{List}
 use Prim.Native.Nat.{ℕ, ◌*◌, ◌/◌, ◌%◌, ◌^◌, ◌≤◌}
 use native.Mathlib.Nat.{one-mul, mod-eq_of_lt, lt_of_le_of_lt}
 use native.Mathlib.Omega.{arith}
-use borrow.Author.Tests.{eq-eqb, leb-true, eqb-true}
+use borrow.Author.Tests.{le-leb, eq-eqb, leb-true, eqb-true}
 use lib.Dec.{leb, eqb, lit<}
 use lib.Pow.{pow-lt}
 use lib.ListN.{length}
@@ -18,15 +18,12 @@ use Rattle.score.specs.Score.{fitting, of_block, block_products}
 
 -- ---- the last test
 
-pub by_length : (w centroids block query bytes : ℕ) → (leb 4 w && leb w 6) ≡ true → centroids ≡ 1 * 2 ^ w % 2 ^ 64 → bytes ≡ at_width w (bytes_per_vector w query)
+pub by_length : (w centroids block query bytes : ℕ) → 4 ≤ w → w ≤ 6 → centroids ≡ 1 * 2 ^ w % 2 ^ 64 → bytes ≡ at_width w (bytes_per_vector w query)
     → eqb block bytes ≡ fitting w centroids block query
 unfolding fitting
-by_length w centroids block query bytes width t b =
-    let between = both (leb 4 w) (leb w 6) width in
-    let from = leb-true 4 w between.0 in
-    let to = leb-true w 6 between.1 in
+by_length w centroids block query bytes from to t b =
     let levels : 1 * 2 ^ w % 2 ^ 64 ≡ 2 ^ w = rw (one-mul (2 ^ w)) (mod-eq_of_lt (pow-lt {j = 64} (lt_of_le_of_lt to (lit< tt)))) in
-    rw (width, eq-eqb centroids (2 ^ w) (t ∙ levels), b, at_width_lem {w = w} (bytes_per_vector w query) (record { some = omega arith; most = omega arith }))
+    rw (le-leb 4 w from, le-leb w 6 to, eq-eqb centroids (2 ^ w) (t ∙ levels), b, at_width_lem {w = w} (bytes_per_vector w query) (record { some = omega arith; most = omega arith }))
 
 -- ---- what follows
 
