@@ -2,8 +2,7 @@ use native.Mathlib.Omega.{arith}
 use mathlib.Core.Path.{◌∙◌}
 use native.Mathlib.Nat.{le-div_iff_mul-le}
 use borrow.Author.Tests.{leb-true}
-use Rattle.std.proofs.Common.{rules, tests, leb}
-use Rattle.lists.proofs.Tests.{both}
+use Rattle.std.proofs.Common.{rules, tests, ◌≤◌}
 use Rattle.codes.proofs.Tests.{at_width_lem}
 use Rattle.scan.proofs.Sizes.{levels-of}
 use Rattle.scan.proofs.Stage.is_grouped.Goals as goal
@@ -12,9 +11,8 @@ pub returns : goal.returns
 returns c =
     λ e.
     let s = c.args.self.now in
-    let within = both (leb 4 s.bits) (leb s.bits 6) (search (rules, tests)) in
-    let from = leb-true 4 s.bits within.0 in
-    let to = leb-true s.bits 6 within.1 in
+    let from : 4 ≤ s.bits = search (rules, tests) in
+    let to : s.bits ≤ 6 = search (rules, tests) in
     record {
       from = from;
       to = to;
