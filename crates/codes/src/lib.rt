@@ -7,10 +7,11 @@ ghost use Rattle.codes.specs.Writing.{is_width, at_width};
 ghost use Rattle.codes.specs.Slots.{block_at};
 
 // A code is 1 to 8 bits wide.
+#[tactic(auto, unfolding(crate::specs::Writing::is_width))]
 pub fn is_width(bits: u8) -> bool
     ensures { result ≡ is_width bits }
 {
-    bits != 0 && bits <= 8
+    (1..=8).contains(&bits)
 }
 
 // How many bytes the codes of one vector take; 0 at any other width. Eight codes take `bits` bytes: counted so, no product

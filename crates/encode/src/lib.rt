@@ -23,7 +23,7 @@ pub struct Header {
 }
 
 // The scales of a slot as binary32 patterns. The second is that of the residual codes, and 0 where there are none:
-// an Option would take twice the places in what is returned and add a case that `residual` tells already.
+// an Option would add a case that `residual` tells already.
 #[derive(Clone, Copy)]
 pub struct Scales {
     pub scale: u32,
@@ -129,8 +129,7 @@ struct ThreeSums {
     second: f32,
 }
 
-// The three sums, each in index order. In one loop, since an addition waits for the one before it in its own sum only; by index in `e`, since of a zip
-// the proof would have to say first what it has yielded.
+// The three sums, each in index order. In one loop, since an addition waits for the one before it in its own sum only.
 fn sum_up(d: &[f32], e: &[f32]) -> ThreeSums
     requires { length e.now ≡ length d.now }
     ensures first { result.first ≡ sum_squares d.now }
@@ -140,11 +139,10 @@ fn sum_up(d: &[f32], e: &[f32]) -> ThreeSums
     let mut first = 0.0f32;
     let mut cross = 0.0f32;
     let mut second = 0.0f32;
-    for (i, x) in d.iter().enumerate() {
-        let y = e[i];
+    for (x, y) in d.iter().zip(e) {
         first = first + *x * *x;
-        cross = cross + *x * y;
-        second = second + y * y;
+        cross = cross + *x * *y;
+        second = second + *y * *y;
     }
     ThreeSums {
         first,

@@ -16,7 +16,7 @@ ghost use Rattle.score.specs.Score.{raw_sums, block_products, byte_terms, fittin
 fn fitting(bits: u8, centroids: usize, block: usize, query: usize) -> bool
     ensures { result ≡ fitting bits centroids block query }
 {
-    if bits < 4 || 6 < bits {
+    if !(4..=6).contains(&bits) {
         return false;
     }
     centroids == 1usize << bits && block == codes::bytes_per_vector(query, bits)

@@ -18,8 +18,5 @@ pub fn padded_dim(dim: usize) -> usize
 pub fn is_rotatable(working_dim: usize, entries: usize, places: usize) -> bool
     ensures { result ≡ rotatable working_dim entries places }
 {
-    1 <= working_dim
-        && working_dim <= 4096
-        && working_dim <= entries
-        && padded_dim(working_dim) <= places
+    (1..=4096).contains(&working_dim) && working_dim <= entries && padded_dim(working_dim) <= places
 }

@@ -1,12 +1,15 @@
 -- The array of scores, changed entry by entry and group by group.
 use mathlib.Core.Path.{◌≡◌, refl, ap, subst, ◌∙◌}
 use mathlib.Core.Bool.{Bool, true, false, cond}
-use mathlib.Core.List.{List}
-use Prim.Native.Nat.{ℕ, ◌≤◌, ◌<◌}
+use mathlib.Core.List.{List, ◌++◌}
+use Prim.Native.Nat.{ℕ, ◌+◌, ◌-◌, ◌≤◌, ◌<◌}
 use native.Mathlib.Decide.{dec_lt}
 use native.Mathlib.Omega.{arith}
 use borrow.Author.Tests.{le-leb, lt-leb}
-use lib.ListN.{length, get_or}
+use lib.ListN.{length, take, drop, get_or, length-drop}
+use lib.Seq.{length-take-le, get_or-take, get_or-drop}
+use Rattle.std.proofs.lemmas.Grind.{common_steps}
+use Rattle.std.proofs.lemmas.List.{get_or_append_left, get_or-append_right}
 use lib.Ieee.{Float, nan}
 use Rattle.pattern.specs.Binary32.{◌⊕◌}
 use Rattle.lists.specs.Lists.{tab, over}
@@ -34,6 +37,18 @@ module _ (g : ℕ → Float → Float) where
       → Rescored g from to all next → Rescored g' from to all next
   changed-like g' from to all next like c =
       record { same = c.same; inside = λ i p q. c.inside i p q ∙ like i (get_or all i nan) p q; outside = c.outside }
+
+  -- a part of the entries, put back where it was taken from
+  pub changed-part : (from n m k : ℕ) (all xs : List Float) → from + n ≤ length all → m ≡ n → length (take m (drop from all)) ≤ k
+      → Rescored (λ i. g (from + i)) 0 k (take m (drop from all)) xs → Rescored g from (from + n) all (take from all ++ (xs ++ drop m (drop from all)))
+  changed-part from n m k all xs room e l c =
+      let start = length-take-le from all (omega arith) in
+      let few : length xs ≡ n = c.same ∙ length-take-le m (drop from all) (rw (length-drop from all) (omega arith)) ∙ e in
+      record {
+        same = grind (arith, common_steps, few);
+        inside = λ i p q. grind (arith, get_or-append_right, get_or_append_left, get_or-take, get_or-drop, few, start, c.same, c.inside (i - from));
+        outside = λ i h. grind (arith, get_or-append_right, get_or_append_left, get_or-take, get_or-drop, few, start);
+      }
 
   pub changed-all : (n : ℕ) (all next : List Float) → n ≤ length all → Rescored g 0 n all next → next ≡ over (tab (λ i. g i (get_or all i nan)) n) all
   changed-all n all next l c =

@@ -373,9 +373,8 @@ impl<'a> Tabled<'a> {
             ⊗ of_bits binary32 (get_or self.now.of.scales.now i 0)) self.now.of.marks.now self.now.of.second)
             first (first + many) all.old all.new }
     {
-        // By index: what is read of `sums` and `scales` goes by it too, and of a part of `all` the promise would have to be put together from the part again.
-        for k in 0..many {
-            all[first + k] = self.group_entry(sums, first, k, all[first + k]);
+        for (k, score) in all[first..first + many].iter_mut().enumerate() {
+            *score = self.group_entry(sums, first, k, *score);
         }
     }
 
@@ -429,9 +428,8 @@ impl<'a> Stage<'a> {
         requires { self.now.n ≤ length all.old }
         ensures { Scores self.now all.old all.new }
     {
-        // By index: over a part of `all` the promise would have to be put together from the part again.
-        for i in 0..self.n {
-            all[i] = self.plain_entry(i, all[i]);
+        for (i, score) in all[..self.n].iter_mut().enumerate() {
+            *score = self.plain_entry(i, *score);
         }
     }
 
@@ -442,7 +440,7 @@ impl<'a> Stage<'a> {
         ensures { result ≡ true → Grouped self.now.bits (length self.now.centroids.now) (length self.now.query.now) self.now.size
             (length self.now.codes.now) (length self.now.scales.now) (length self.now.marks.now) self.now.n }
     {
-        if self.bits < 4 || 6 < self.bits || self.centroids.len() != 1usize << self.bits {
+        if !(4..=6).contains(&self.bits) || self.centroids.len() != 1usize << self.bits {
             return false;
         }
         if self.query.len() % 16 != 0 || 4096 < self.query.len() {
@@ -493,8 +491,8 @@ impl<'a> Stage<'a> {
 }
 
 // The scores of a stage of the marked slots below n, each in its slot's place; for a second stage they are added to what stands there. Where there
-// are fewer places than slots, nothing is written. The parameters come one by one: its one caller (hits) has each from another place, so that a public struct
-// would be filled for each call only.
+// are fewer places than slots, nothing is written. The parameters come one by one: a public struct would be filled at hits' two calls
+// only, which differ in codes, scales and `second`.
 pub fn stage_scores(
     bits: u8,
     centroids: &[f32],

@@ -8,5 +8,5 @@ use Rattle.scan.proofs.Tabled.enter_group.Given as goal
 
 abbrev pub invariant-loop-k : goal.invariant-loop-k
 invariant-loop-k l =
-    Rescored (score_now (λ i. raw_from l.self.of.bits l.sums (i - l.first) ⊗ of_bits binary32 (get_or l.self.of.scales.now i 0)) l.self.of.marks.now l.self.of.second)
-    l.first (l.first + l.k) l.initial.all l.all
+    Rescored (λ k. score_now (λ i. raw_from l.self.of.bits l.sums (i - l.first) ⊗ of_bits binary32 (get_or l.self.of.scales.now i 0)) l.self.of.marks.now l.self.of.second (l.first + k))
+    0 l.k l.initial.score-items l.score-items
