@@ -57,8 +57,8 @@ fn is_marked(marks: &[u8], slot: usize) -> bool
     slot < marks.len() && 0 < marks[slot]
 }
 
-// The scores of the marked slots in use under a prepared query, each in its slot's place. The range of the width and the length of `all` are clauses here and below:
-// an index that is lent by C has no ghost field, and a struct around it, or around `all`, would be longer.
+// The scores of the marked slots in use under a prepared query, each in its slot's place. The range of the width and the length of `all` are clauses here and
+// below: an index that is lent by C has no ghost field, and a struct around it, or around `all`, would be longer.
 fn score_slots(
     index: Index,
     arrays: &Lent<'_>,
@@ -183,8 +183,8 @@ fn enter_all(
 
 // ---- the list
 
-// The score of each of these slots, in the first places of `scores`. One of the two slices goes by index: where iter_mut() is zipped, nothing is known after the
-// loop of the entries that were written (crate encode).
+// The score of each of these slots, in the first places of `scores`. One of the two slices goes by index: where iter_mut() is zipped, nothing is known after
+// the loop of the entries that were written, as in crate encode.
 fn write_scores(all: &[f32], slots: &[u32], scores: &mut [f32])
     requires slots_within { Each (λ i. i < length all.now) slots.now }
     requires room { length slots.now ≤ length scores.old }

@@ -25,8 +25,8 @@ use refusal::Refusal;
 
 // ---- reading
 
-// The refusal of the file; where there is none, the arrays have the keys of its slots. `keys` and `keyed` are two slices, here and below: a struct of the two would
-// be made for this file alone, and taken apart here and in `put_key`.
+// The refusal of the file; where there is none, the arrays have the keys of its slots. `keys` and `keyed` are two slices, here and below: a struct of the two
+// would be made for this file alone, and taken apart here and in `put_key`.
 fn read_keys(keys: &mut [u64], keyed: &mut [bool], file: &[u8]) -> Result<(), Refusal>
     requires { (length keys.old ≡ 1024) × (length keyed.old ≡ 1024) }
     ensures refusal { fault_of result ≡ read_refusal file.now room }

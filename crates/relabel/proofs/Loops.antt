@@ -24,7 +24,8 @@ module _ (ks : List ℕ) (on : List Bool) (old new n : ℕ) (room : n ≤ length
   module _ {i : ℕ} {now : List ℕ} (w : Done i now) (l : i < length (take n ks)) where
     still : get_or now i 0 ≡ get_or ks i 0
     still =
-        ap (λ ys. get_or ys i 0) w.written ∙ get_or-rest (tab (key_after ks on old new) i) (take n ks) i 0 (rw (length-tab (key_after ks on old new) i) (omega arith))
+        ap (λ ys. get_or ys i 0) w.written
+        ∙ get_or-rest (tab (key_after ks on old new) i) (take n ks) i 0 (rw (length-tab (key_after ks on old new) i) (omega arith))
         ∙ get_or-take n ks i 0 (omega (arith, length-take-le n ks room))
 
     has : slot_has now on old i ≡ slot_has ks on old i

@@ -1,6 +1,7 @@
 use mathlib.Core.Path.{ap, ◌∙◌}
 use mathlib.Core.List.{List, [], ◌∷◌}
-use Prim.Native.Nat.{ℕ}
+use Prim.Native.Nat.{ℕ, ◌≤◌}
+use lib.ListN.{length}
 use Rattle.std.proofs.Common.{arith}
 use Rattle.std.proofs.lemmas.Grind.{common_steps}
 use lib.Seq.{sets-eq}
@@ -17,4 +18,5 @@ pub returns : goal.returns
 unfolding over
 returns c =
     let new : List ℕ = c.args.word ∷ [] in
-    ap (put 0) (sets-eq new c.args.answer.now 0 (grind (arith, common_steps, c.is_empty.ensures, c.if-is_empty.false))) ∙ words-put 0 new c.args.answer.now (grind (arith, common_steps, c.is_empty.ensures, c.if-is_empty.false))
+    let some : 1 ≤ length c.args.answer.now = grind (arith, common_steps, c.is_empty.ensures, c.if-is_empty.false) in
+    ap (put 0) (sets-eq new c.args.answer.now 0 some) ∙ words-put 0 new c.args.answer.now some
