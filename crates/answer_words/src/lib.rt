@@ -29,7 +29,7 @@ fn put_record(fields: &mut [u64], index: Index)
 fn put_next(index: Index, word: u64, fields: &mut [u64], answer: &mut [u64]) -> u8
     ensures { put_both result fields.new answer.new ≡ put_next index (word ∷ []) fields.old answer.old }
 {
-    if (fields.len() < words::RECORD_WORDS) | (answer.len() < 1) {
+    if (fields.len() < words::RECORD_WORDS) | answer.is_empty() {
         return 13;
     }
     put_record(fields, index);
@@ -42,7 +42,7 @@ fn put_next(index: Index, word: u64, fields: &mut [u64], answer: &mut [u64]) -> 
 pub fn put_word(word: u64, answer: &mut [u64]) -> u8
     ensures { put result answer.new ≡ put_words 0 (word ∷ []) answer.old }
 {
-    if answer.len() < 1 {
+    if answer.is_empty() {
         return 13;
     }
     answer[0] = word;

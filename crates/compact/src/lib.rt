@@ -20,7 +20,7 @@ use refusal::Refusal;
 
 // ---- which slots stay
 
-// Writes the numbers of the live slots, in slot order, and returns how many there are.
+// Writes the numbers of the live slots, in slot order, and returns how many there are. By index: the index is what is written.
 fn live_slots(alive: &[u8], n: usize, slots: &mut [u32]) -> usize
     requires { (n ≤ length slots.old) × (n ≤ 65536) }
     ensures value { result ≡ length (live_slots alive.now n) }
@@ -42,8 +42,8 @@ fn gather<T: Copy>(xs: &mut [T], slots: &[u32], n: usize)
     requires { Downward slots.now n (length xs.old) }
     ensures { (d : _) → xs.new ≡ gathered slots.now n d xs.old }
 {
-    for i in 0..n {
-        xs[i] = xs[slots[i] as usize];
+    for (i, slot) in slots[..n].iter().enumerate() {
+        xs[i] = xs[*slot as usize];
     }
 }
 
@@ -51,8 +51,8 @@ fn gather_blocks(codes: &mut [u8], size: usize, slots: &[u32], n: usize)
     requires { Downward slots.now n (length codes.old / size) }
     ensures { codes.new ≡ gathered_blocks slots.now n size codes.old }
 {
-    for i in 0..n {
-        let from = slots[i] as usize * size;
+    for (i, slot) in slots[..n].iter().enumerate() {
+        let from = *slot as usize * size;
         codes.copy_within(from..from + size, i * size);
     }
 }

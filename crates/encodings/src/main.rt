@@ -28,7 +28,7 @@ use refusal::Refusal;
 use score::Scored;
 use std::io::Read;
 
-// `leaves` begins alike, with buffers of other sizes.
+// Each program needs a main of its own; what `exercise` and `leaves` share with it would be a crate for these few lines.
 fn main(rt: HostRuntime) {
     let mut reader = rt.stdin();
     // As long as the longest line that is read, 140,000 bytes, and its newline.

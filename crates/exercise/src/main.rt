@@ -23,7 +23,7 @@ use runs::InHex;
 use score::Scored;
 use std::io::Read;
 
-// `encodings` and `leaves` begin alike, with buffers of other sizes.
+// Each program needs a main of its own; what `encodings` and `leaves` share with it would be a crate for these few lines.
 fn main(rt: HostRuntime) {
     let mut reader = rt.stdin();
     // As long as the longest line that is read, 140,000 bytes, and its newline.
@@ -409,30 +409,36 @@ impl Command {
     }
 }
 
-// A line's command, its numbers, and how many entries or bytes come after them; 0 for what the line hasn't: which it has is said by its command.
+// A line's numbers; 0 for one that it hasn't: which it has is said by its command, and an Option each would say that again.
 #[derive(Clone, Copy)]
-struct Call {
-    command: Command,
+struct Numbers {
     a: u64,
     b: u64,
     c: u64,
+}
+
+impl Numbers {
+    const NONE: Numbers = Numbers { a: 0, b: 0, c: 0 };
+}
+
+// A line's command, its numbers, and how many entries or bytes come after them, 0 where the line has none.
+#[derive(Clone, Copy)]
+struct Call {
+    command: Command,
+    numbers: Numbers,
     count: usize,
 }
 
 impl Call {
     const SILENT: Call = Call {
         command: Command::Silent,
-        a: 0,
-        b: 0,
-        c: 0,
+        numbers: Numbers::NONE,
         count: 0,
     };
 
     const UNREADABLE: Call = Call {
         command: Command::Unreadable,
-        a: 0,
-        b: 0,
-        c: 0,
+        numbers: Numbers::NONE,
         count: 0,
     };
 }
@@ -465,9 +471,7 @@ fn call_of(line: &[u8], vector: &mut [f32], file: &mut [u8]) -> Option<Call> {
     let numbers = request_of(line, command)?;
     Some(Call {
         command,
-        a: numbers.a,
-        b: numbers.b,
-        c: numbers.c,
+        numbers,
         count,
     })
 }
@@ -483,20 +487,12 @@ fn read_run(line: &[u8], command: Command, vector: &mut [f32], file: &mut [u8]) 
     Some(0)
 }
 
-// A line's numbers; 0 for one that it hasn't.
-#[derive(Clone, Copy)]
-struct Numbers {
-    a: u64,
-    b: u64,
-    c: u64,
-}
-
 // The fields of `lend`, `set` and `field` are not all numbers of a call.
 fn request_of(line: &[u8], command: Command) -> Option<Numbers> {
     match command {
         Command::Lend => {
             lengths_of(line)?;
-            Some(Numbers { a: 0, b: 0, c: 0 })
+            Some(Numbers::NONE)
         }
         Command::Set(_) => poke_of(line),
         Command::Field(field) => field_value(line, field),
@@ -581,8 +577,14 @@ enum Done {
 // The calls that change the arrays; no other line does. Only this function passes the arrays on to be changed, the others lend them to be read: the check takes
 // longest where they may change.
 fn change(call: Call, vector: &[f32], file: &[u8], arrays: &mut LentMut<'_>, index: Index) -> Done {
+    let numbers = call.numbers;
     match call.command {
-        Command::Set(array) => Done::Element(set_element(arrays, array, call.a as usize, call.b)),
+        Command::Set(array) => Done::Element(set_element(
+            arrays,
+            array,
+            numbers.a as usize,
+            numbers.b,
+        )),
         Command::Compact => Done::Record(compact::compact(index, arrays)),
         Command::Relabel | Command::Remove | Command::RemoveAt => change_marks(
             call,
@@ -597,8 +599,10 @@ fn change(call: Call, vector: &[f32], file: &[u8], arrays: &mut LentMut<'_>, ind
             index,
         ),
         Command::Add => Done::Slot(add::add(index, arrays, vector)),
-        Command::AddKeyed => Done::Slot(add_keyed::add_keyed(index, arrays, call.a, vector)),
-        Command::AddMulti => Done::Slot(add_multi::add_keyed_multi(index, arrays, call.a, vector)),
+        Command::AddKeyed => Done::Slot(add_keyed::add_keyed(index, arrays, numbers.a, vector)),
+        Command::AddMulti => Done::Slot(add_multi::add_keyed_multi(
+            index, arrays, numbers.a, vector,
+        )),
         Command::Read => Done::Record(read::from_bytes(arrays, file)),
         _ => Done::Nothing,
     }
@@ -618,12 +622,13 @@ fn change_marks(
     scales2: &mut [u32],
     index: Index,
 ) -> Done {
+    let numbers = call.numbers;
     match call.command {
         Command::Relabel => Done::Marks(relabel::relabel(
-            index, codes, scales, keys, keyed, held, alive, codes2, scales2, call.a, call.b,
+            index, codes, scales, keys, keyed, held, alive, codes2, scales2, numbers.a, numbers.b,
         )),
         Command::Remove => Done::Marks(removal::remove_keyed(
-            index, codes, scales, keys, keyed, held, alive, codes2, scales2, call.a,
+            index, codes, scales, keys, keyed, held, alive, codes2, scales2, numbers.a,
         )),
         Command::RemoveAt => Done::Marks(removal::remove_keyed_at(
             index,
@@ -635,8 +640,8 @@ fn change_marks(
             alive,
             codes2,
             scales2,
-            call.a,
-            call.b as usize,
+            numbers.a,
+            numbers.b as usize,
         )),
         _ => Done::Nothing,
     }
@@ -724,32 +729,39 @@ fn answer(
 
 // The calls that are answered in a word or two and only read the arrays. Any other line says what it did.
 fn ask(call: Call, done: Done, vector: &[f32], arrays: &Lent<'_>, index: Index) -> Outcome {
+    let numbers = call.numbers;
     match call.command {
-        Command::New => after_made(make::new(call.a as usize, call.b, arrays), index),
+        Command::New => after_made(make::new(numbers.a as usize, numbers.b, arrays), index),
         Command::Working => after_made(
-            make::with_working_dim(call.a as usize, call.b as usize, call.c, arrays),
+            make::with_working_dim(numbers.a as usize, numbers.b as usize, numbers.c, arrays),
             index,
         ),
         Command::Residual => {
-            after_made(make::with_residual(call.a as usize, call.b, arrays), index)
+            after_made(
+                make::with_residual(numbers.a as usize, numbers.b, arrays),
+                index,
+            )
         }
-        Command::Bits => after_made(settings::set_bits(index, arrays, low_byte(call.a)), index),
+        Command::Bits => after_made(
+            settings::set_bits(index, arrays, low_byte(numbers.a)),
+            index,
+        ),
         Command::Enable => after_made(settings::enable_cascade(index, arrays), index),
         Command::KeyOf => Outcome {
             index,
-            reply: of_key(keys::key_of(index, arrays, call.a as usize)),
+            reply: of_key(keys::key_of(index, arrays, numbers.a as usize)),
         },
         Command::Contains => Outcome {
             index,
-            reply: of_asked(keys::contains_key(index, arrays, call.a)),
+            reply: of_asked(keys::contains_key(index, arrays, numbers.a)),
         },
         Command::SlotAt => Outcome {
             index,
-            reply: of_held(keys::slot_at(index, arrays, call.a, call.b as usize)),
+            reply: of_held(keys::slot_at(index, arrays, numbers.a, numbers.b as usize)),
         },
         Command::Score => Outcome {
             index,
-            reply: of_score(score_slot::score(index, arrays, call.a as usize, vector)),
+            reply: of_score(score_slot::score(index, arrays, numbers.a as usize, vector)),
         },
         Command::Length => Outcome {
             index,
@@ -848,7 +860,14 @@ fn search_slots(
     scores: &mut [f32],
 ) {
     if call.command == Command::Search {
-        let found = search::search(index, arrays, vector, call.a as usize, slots, scores);
+        let found = search::search(
+            index,
+            arrays,
+            vector,
+            call.numbers.a as usize,
+            slots,
+            scores,
+        );
         put_slots(out, found, slots, scores);
         return;
     }
@@ -856,8 +875,8 @@ fn search_slots(
         index,
         arrays,
         vector,
-        call.a as usize,
-        call.b as usize,
+        call.numbers.a as usize,
+        call.numbers.b as usize,
         slots,
         scores,
     );
@@ -868,7 +887,7 @@ fn search_slots(
 fn list_keys(call: Call, vector: &[f32], out: &mut Printer<'_>, arrays: &Lent<'_>, index: Index) {
     let mut names = [KEY_MARK; 4096];
     let mut scores = [SCORE_MARK; 4096];
-    let n = (call.b as usize).min(4096);
+    let n = (call.numbers.b as usize).min(4096);
     search_keys(
         call,
         vector,
@@ -889,13 +908,20 @@ fn search_keys(
     names: &mut [u64],
     scores: &mut [f32],
 ) {
-    let found = search_keyed::search_keyed(index, arrays, vector, call.a as usize, names, scores);
+    let found = search_keyed::search_keyed(
+        index,
+        arrays,
+        vector,
+        call.numbers.a as usize,
+        names,
+        scores,
+    );
     put_found(out, found, names, KEY_MARK, scores);
 }
 
 fn write_file(call: Call, out: &mut Printer<'_>, arrays: &Lent<'_>, index: Index) {
     let mut file = [BYTE_MARK; 65536];
-    let n = (call.a as usize).min(65536);
+    let n = (call.numbers.a as usize).min(65536);
     write_into(out, arrays, index, &mut file[..n]);
 }
 
@@ -907,9 +933,9 @@ fn write_into(out: &mut Printer<'_>, arrays: &Lent<'_>, index: Index, file: &mut
 // How many places a line of the command lends.
 fn places(call: Call) -> usize {
     if call.command == Command::SearchCascade {
-        return call.c as usize;
+        return call.numbers.c as usize;
     }
-    call.b as usize
+    call.numbers.b as usize
 }
 
 // ---- answers in words
@@ -956,7 +982,7 @@ fn without_arrays(call: Call, index: Index) -> Outcome {
             reply: Reply::Ok,
         },
         Command::Field(field) => Outcome {
-            index: with_field(index, field, call.a),
+            index: with_field(index, field, call.numbers.a),
             reply: Reply::Ok,
         },
         Command::Silent => Outcome {

@@ -1,4 +1,4 @@
 -- Laws of scanning, and of what it finds on a record and arrays that fit.
-mod Scan
+pub mod Scan
 pub mod Live
 pub mod Value

@@ -30,7 +30,7 @@ module _ {X : Type 0} (p : X → Bool) where
       go true e = refl
       go false e = e
 
-range-below : (n : ℕ) → range_with_len 0 n ≡ below n
+pub range-below : (n : ℕ) → range_with_len 0 n ≡ below n
 range-below n =
     sym (tab-is (λ i. i) (range_with_len 0 n) (λ i d l. omega (arith, get_or-range_with_len 0 n i d (rw (length-range_with_len 0 n) at l))))
     ∙ ap below (length-range_with_len 0 n)

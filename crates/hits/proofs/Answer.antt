@@ -1,9 +1,10 @@
 -- What the call answers and writes, by what its tests say.
 use Rattle.std.specs.Prelude.{Ok, Err}
+use Rattle.std.specs.List.{list_any, range_with_len}
 use mathlib.Core.Path.{◌≡◌, refl, sym, ap, subst, ◌∙◌}
-use mathlib.Core.Bool.{Bool, true, false, cond, ◌&&◌}
+use mathlib.Core.Bool.{Bool, true, false, cond, ◌&&◌, ◌||◌}
 use mathlib.Core.List.{List, [], ◌∷◌, map}
-use Prim.Native.Nat.{ℕ, zero, suc, min, max, ◌≤◌, ◌<◌}
+use Prim.Native.Nat.{ℕ, zero, suc, min, max, ◌≤◌}
 use native.Mathlib.Omega.{arith}
 use lib.Dec.{T, leb, ltb}
 use lib.ListN.{length, take, get_or, length-map}
@@ -14,18 +15,17 @@ use Rattle.pattern.specs.Binary32.{+0}
 use Rattle.lists.specs.Lists.{tab, over, below}
 use Rattle.lists.specs.Keep.{keep}
 use Rattle.lists.proofs.Laws.{length-tab}
-use Rattle.lists.proofs.Keep.{keep-none}
-use Rattle.lists.proofs.Front.{each-tab, tab-each}
 use Rattle.choose.proofs.Choice.{choose-length}
 use Rattle.score.specs.Order.{order_number}
 use Rattle.padding.specs.Rotatable.{rotatable}
 use Rattle.scan.specs.Scan.{takes_part}
 use Rattle.lists.proofs.Tests.{and_left, and_right}
 use Rattle.choose_slots.specs.Slots.{listed, listed_within}
+use Rattle.held.proofs.Scan.{range-below}
 use Rattle.hits.specs.declared.Unlisted.TheVariants.{Nan, Unable}
 use Rattle.hits.specs.Hits.{Listed, chosen, shown, list_answer, ready}
 use Rattle.hits.specs.Steps.{score_entry, order_entry, any_nan, WritesHits, any_takes_part, count_answer, ListsHits}
-use Rattle.hits.proofs.Entering.{never, none_each, no_nan}
+use Rattle.hits.proofs.Entering.{no_nan}
 use Rattle.hits.proofs.Choosing.{picks, chosen-slots, chosen-scores, listed-picks, picks-scores}
 
 -- ---- what is ready
@@ -47,23 +47,19 @@ ready-rotatable n w working entries e =
 
 -- ---- whether a slot takes part
 
-pub part-found : (marks : List ℕ) (n i : ℕ) → i < n → takes_part marks i ≡ true → true ≡ any_takes_part marks n
-unfolding any_takes_part
-part-found marks n i l t = go (keep (takes_part marks) (below n)) refl
+some-kept : {X : Type 0} (p : X → Bool) (xs : List X) → list_any p xs ≡ ltb 0 (length (keep p xs))
+some-kept p [] = refl
+some-kept p (x ∷ xs) = go (p x) (some-kept p xs)
   where
-    go : (is : List ℕ) → keep (takes_part marks) (below n) ≡ is → true ≡ ltb 0 (length is)
-    go [] e = never (sym (tab-each (λ j. takes_part marks j ≡ false) (λ j. j) n (none_each (takes_part marks) (below n) e) i l) ∙ t)
-    go (j ∷ is) e = sym (lt-ltb 0 (suc (length is)) (omega arith))
+    go : (b : Bool) → list_any p xs ≡ ltb 0 (length (keep p xs)) → (b || list_any p xs) ≡ ltb 0 (length (cond b (x ∷ keep p xs) (keep p xs)))
+    go true e = sym (lt-ltb 0 (suc (length (keep p xs))) (omega arith))
+    go false e = e
 
-pub part_none : (marks : List ℕ) (n : ℕ) → ((i : ℕ) → i < n → takes_part marks i ≡ false) → false ≡ any_takes_part marks n
+pub any_marked : (marks : List ℕ) (n : ℕ) → list_any (takes_part marks) (range_with_len 0 n) ≡ any_takes_part marks n
 unfolding any_takes_part
-part_none marks n h = rw (keep-none (takes_part marks) (below n) (each-tab (λ i. takes_part marks i ≡ false) (λ i. i) n h)) refl
+any_marked marks n = ap (list_any (takes_part marks)) (range-below n) ∙ some-kept (takes_part marks) (below n)
 
 -- ---- the answer by the count
-
-pub count-some : (m : ℕ) (b : Bool) → 0 < m → Ok m ≡ count_answer m b
-count-some zero b h = absurd (omega arith)
-count-some (suc m) b h = refl
 
 pub count_none : (m : ℕ) (b c : Bool) → m ≤ 0 → b ≡ c → count_answer 0 c ≡ count_answer m b
 count_none zero b c h e = ap (count_answer 0) (sym e)

@@ -5,6 +5,7 @@
 
 ghost use Rattle.std.specs.Prelude.{◌≡◌, true, map, ◌≤◌, ◌<◌, min, length, get_or};
 ghost use Rattle.std.specs.Float.{nan};
+ghost use Rattle.std.specs.List.{list_any, range_with_len};
 ghost use Rattle.pattern.specs.Binary32.{+0};
 ghost use Rattle.lists.specs.Lists.{over};
 ghost use Rattle.lists.specs.Keep.{Each};
@@ -49,26 +50,25 @@ fn is_ready(index: Index, entries: usize) -> bool
 
 // ---- the working arrays
 
-// A slot past the end of the marks takes no part.
+// A slot past the end of the marks takes no part. `marks::is_live` makes the same test, but a cascade's marks say which slots are nearest, not which live.
 fn is_marked(marks: &[u8], slot: usize) -> bool
     ensures { result ≡ takes_part marks.now slot }
 {
     slot < marks.len() && 0 < marks[slot]
 }
 
-// The scores of the marked slots below n under a prepared query, each in its slot's place. The range of the width and the length of `all` are clauses here and below:
-// an index that is lent by C has no ghost field, and a struct around it, or around `all`, would be longer.
+// The scores of the marked slots in use under a prepared query, each in its slot's place. The range of the width and the length of `all` are clauses here and
+// below: an index that is lent by C has no ghost field, and a struct around it, or around `all`, would be longer.
 fn score_slots(
     index: Index,
     arrays: &Lent<'_>,
     marks: &[u8],
-    n: usize,
     centroids: &[f32],
     prepared: &[f32],
     all: &mut [f32],
 )
-    requires { (4 ≤ index.bits) × (index.bits ≤ 6) × (n ≤ length all.old) }
-    ensures { Scores (prepared_score index (contents arrays.now) centroids.now prepared.now) marks.now n all.old all.new }
+    requires { (4 ≤ index.bits) × (index.bits ≤ 6) × (index.n ≤ length all.old) }
+    ensures { Scores (prepared_score index (contents arrays.now) centroids.now prepared.now) marks.now index.n all.old all.new }
 {
     let bits = index.bits;
     let size = codes::bytes_per_vector(padding::padded_dim(index.working_dim), bits);
@@ -80,7 +80,7 @@ fn score_slots(
         arrays.codes,
         arrays.scales,
         marks,
-        n,
+        index.n,
         false,
         all,
     );
@@ -93,7 +93,7 @@ fn score_slots(
             arrays.codes2,
             arrays.scales2,
             marks,
-            n,
+            index.n,
             true,
             all,
         );
@@ -133,23 +133,22 @@ fn enter_orders(marks: &[u8], n: usize, all: &mut [f32], orders: &mut [u32]) -> 
     true
 }
 
-// Enters the slots below n under a prepared query. Eight parameters: a struct of them would be made for this one call, of what its caller has apart.
+// Enters the slots in use under a prepared query.
 fn enter_slots(
     index: Index,
     arrays: &Lent<'_>,
     marks: &[u8],
-    n: usize,
     centroids: &[f32],
     prepared: &[f32],
     all: &mut [f32],
     orders: &mut [u32],
 ) -> bool
-    requires { (4 ≤ index.bits) × (index.bits ≤ 6) × (n ≤ length all.old) × (n ≤ length orders.old) }
+    requires { (4 ≤ index.bits) × (index.bits ≤ 6) × (index.n ≤ length all.old) × (index.n ≤ length orders.old) }
     ensures { EntersSlots (prepared_score index (contents arrays.now) centroids.now prepared.now)
-        marks.now n all.old all.new orders.old orders.new result }
+        marks.now index.n all.old all.new orders.old orders.new result }
 {
-    score_slots(index, arrays, marks, n, centroids, prepared, all);
-    enter_orders(marks, n, all, orders)
+    score_slots(index, arrays, marks, centroids, prepared, all);
+    enter_orders(marks, index.n, all, orders)
 }
 
 // Enters the slots in use under a query.
@@ -175,7 +174,6 @@ fn enter_all(
         index,
         arrays,
         marks,
-        index.n,
         &centroids[0..levels],
         &prepared[0..padded],
         all,
@@ -185,7 +183,8 @@ fn enter_all(
 
 // ---- the list
 
-// The score of each of these slots, in the first places of `scores`.
+// The score of each of these slots, in the first places of `scores`. One of the two slices goes by index: where iter_mut() is zipped, nothing is known after
+// the loop of the entries that were written, as in crate encode.
 fn write_scores(all: &[f32], slots: &[u32], scores: &mut [f32])
     requires slots_within { Each (λ i. i < length all.now) slots.now }
     requires room { length slots.now ≤ length scores.old }
@@ -208,16 +207,11 @@ fn write_hits(all: &[f32], orders: &[u32], k: usize, slots: &mut [u32], scores: 
     n
 }
 
-// Whether one of the slots below n takes part. By a for: of `any` the proof would have to say first what the list of slots is, and what the test says of each.
+// Whether one of the slots below n takes part.
 fn is_any_marked(marks: &[u8], n: usize) -> bool
-    ensures { result ≡ any_takes_part marks.now n }
+    ensures { result ≡ list_any (takes_part marks.now) (range_with_len 0 n) }
 {
-    for i in 0..n {
-        if is_marked(marks, i) {
-            return true;
-        }
-    }
-    false
+    (0..n).any(|i| is_marked(marks, i))
 }
 
 // The answer where so many hits were written. None is written where no slot takes part, and also where places are too few for those that do.

@@ -71,7 +71,7 @@ pub struct Added {
 
 // What a version of the byte form has: whether it is read, how many bytes a scale takes, and whether there is a width byte, a second stage, a key table,
 // a working_dim field that counts. `known` is a flag, since the other fields have their values at an unknown version too, and `head_in` and `stages_in`
-// (header), which promise what they give of any file, read them.
+// (header), whose promises hold of any file, read them.
 #[derive(Clone, Copy)]
 pub struct Form {
     pub known: bool,

@@ -29,7 +29,8 @@ pub fn has_entry(keyed: &[bool], alive: &[u8], slot: usize) -> bool
     marks::is_live(alive, slot) && slot_keys::is_keyed(keyed, slot)
 }
 
-// Both counts of the first n slots, in one walk. Past the end of `alive` all slots are dead.
+// Both counts of the first n slots, in one walk. By slot: `keyed` and `alive` are both read at it, and either may be the shorter. Past the end of `alive` all
+// slots are dead.
 pub fn count_slots(keyed: &[bool], alive: &[u8], n: usize) -> Counts
     ensures { result ≡ counts_of keyed.now alive.now n }
 {

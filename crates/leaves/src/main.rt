@@ -27,7 +27,7 @@ use rhdh::Rhdh;
 use signs::SignStream;
 use std::io::Read;
 
-// `encodings` begins alike, with buffers of other sizes.
+// Each program needs a main of its own; what `encodings` and `exercise` share with it would be a crate for these few lines.
 fn main(rt: HostRuntime) {
     let mut reader = rt.stdin();
     // As long as the longest line that is read, 140,000 bytes, and its newline.

@@ -25,7 +25,8 @@ use refusal::Refusal;
 
 // ---- reading
 
-// The refusal of the file; where there is none, the arrays have the keys of its slots.
+// The refusal of the file; where there is none, the arrays have the keys of its slots. `keys` and `keyed` are two slices, here and below: a struct of the two
+// would be made for this file alone, and taken apart here and in `put_key`.
 fn read_keys(keys: &mut [u64], keyed: &mut [bool], file: &[u8]) -> Result<(), Refusal>
     requires { (length keys.old ≡ 1024) × (length keyed.old ≡ 1024) }
     ensures refusal { fault_of result ≡ read_refusal file.now room }
@@ -104,7 +105,6 @@ fn put_head(out: &mut Printer<'_>, file: &[u8])
     out.put_byte(b'\n');
 }
 
-// `keys` and `keyed` are two slices, here and below: a struct of the two would be made for this one walk.
 fn put_key(out: &mut Printer<'_>, keys: &[u64], keyed: &[bool], slot: usize)
     ensures { Printed (key_text (key_at keys.now keyed.now slot)) out.old out.new }
 {

@@ -1,7 +1,7 @@
 // Relabelling: the call that changes keys, and no code. Keys are found by scanning.
 #![tactic(auto)]
 
-ghost use Rattle.std.specs.Prelude.{◌≡◌, cond, ◌≤◌, ◌<◌, length, set};
+ghost use Rattle.std.specs.Prelude.{◌≡◌, ◌≤◌, length};
 ghost use Rattle.index.specs.Arrays.{lent};
 ghost use Rattle.index.specs.Verdict.{verdict};
 ghost use Rattle.index.specs.Step as Step;
@@ -28,23 +28,15 @@ fn may_relabel(keys: &[u64], keyed: &[bool], n: usize, old: u64, new: u64) -> bo
     held::held_count(keys, keyed, n, new) == 0
 }
 
-// Gives a slot the new key if it has the old one.
-fn relabel_slot(keys: &mut [u64], keyed: &[bool], slot: usize, old: u64, new: u64)
-    requires { slot < length keys.old }
-    ensures { keys.new ≡ cond (slot_has keys.old keyed.now old slot) (set keys.old slot new) keys.old }
-{
-    if slot_keys::has_key(keys, keyed, slot, old) {
-        keys[slot] = new;
-    }
-}
-
-// Gives the slots of the old key the new one.
+// Gives the slots of the old key the new one. `slot_keys::has_key` would read `keys`, which the loop changes.
 fn relabel_slots(keys: &mut [u64], keyed: &[bool], n: usize, old: u64, new: u64)
     requires { n ≤ length keys.old }
     ensures { keys.new ≡ replaced_where (slot_has keys.old keyed.now old) n new 0 keys.old }
 {
-    for i in 0..n {
-        relabel_slot(keys, keyed, i, old, new);
+    for (i, key) in keys[..n].iter_mut().enumerate() {
+        if *key == old && slot_keys::is_keyed(keyed, i) {
+            *key = new;
+        }
     }
 }
 

@@ -72,16 +72,18 @@ impl Writer<'_> {
         self.put_bytes(codes::slot_codes(codes, slot, block));
     }
 
-    // The key entry, under the slot's number among the live ones. It reads three of the arrays, as its clause says, here and below.
-    fn put_entry(&mut self, keys: &[u64], keyed: &[bool], alive: &[u8], slot: usize, number: usize)
-        requires { Room (cond (entry_at keyed.now alive.now slot) (le_bytes 4 number ++ le_bytes 8 (get_or keys.now slot 0)) []) self.old }
-        ensures { Put (cond (entry_at keyed.now alive.now slot) (le_bytes 4 number ++ le_bytes 8 (get_or keys.now slot 0)) []) self.old self.new }
+    // The key entry, under the slot's number among the live ones.
+    fn put_entry(&mut self, arrays: &Lent<'_>, slot: usize, number: usize)
+        requires { let a = contents arrays.now in
+            Room (cond (entry_at a.keyed a.alive slot) (le_bytes 4 number ++ le_bytes 8 (get_or a.keys slot 0)) []) self.old }
+        ensures { let a = contents arrays.now in
+            Put (cond (entry_at a.keyed a.alive slot) (le_bytes 4 number ++ le_bytes 8 (get_or a.keys slot 0)) []) self.old self.new }
     {
-        if !layout::has_entry(keyed, alive, slot) {
+        if !layout::has_entry(arrays.keyed, arrays.alive, slot) {
             return;
         }
         self.put_number(4, number as u64);
-        self.put_number(8, slot_keys::key_word(keys, slot));
+        self.put_number(8, slot_keys::key_word(arrays.keys, slot));
     }
 
     // ---- the blocks. A loop each: a trait for what is written of a slot would be longer than the three loops, of which the last
@@ -126,14 +128,14 @@ impl Writer<'_> {
     }
 
     // The key entries.
-    fn put_entries(&mut self, keys: &[u64], keyed: &[bool], alive: &[u8], n: usize)
-        requires { Room (in_order (key_piece keys.now keyed.now alive.now) n) self.old }
-        ensures { Put (in_order (key_piece keys.now keyed.now alive.now) n) self.old self.new }
+    fn put_entries(&mut self, arrays: &Lent<'_>, n: usize)
+        requires { let a = contents arrays.now in Room (in_order (key_piece a.keys a.keyed a.alive) n) self.old }
+        ensures { let a = contents arrays.now in Put (in_order (key_piece a.keys a.keyed a.alive) n) self.old self.new }
     {
         let mut number = 0;
         for i in 0..n {
-            self.put_entry(keys, keyed, alive, i, number);
-            number += marks::is_live(alive, i) as usize;
+            self.put_entry(arrays, i, number);
+            number += marks::is_live(arrays.alive, i) as usize;
         }
     }
 
@@ -181,7 +183,7 @@ impl Writer<'_> {
         self.put_stage(arrays.codes, arrays.scales, arrays.alive, block, n);
         self.put_second(index.residual, arrays, block, n);
         self.put_number(4, counts.keyed as u64);
-        self.put_entries(arrays.keys, arrays.keyed, arrays.alive, n);
+        self.put_entries(arrays, n);
     }
 }
 

@@ -14,7 +14,7 @@ returns-then-index c =
     ∙ ap (bytes_per_vector c.args.index.bits) c.padded_dim.ensures in
     let a = c.args in
     two-stages (header_of a.index) a.arrays.now.codes.now a.arrays.now.scales.now a.arrays.now.codes2.now a.arrays.now.scales2.now a.centroids.now a.prepared.now _
-    size_is a.marks.now a.n a.all.now _ c.requires.2 c.stage_scores.ensures _ c.if-index.true c.stage_scores-then-index.ensures
+    size_is a.marks.now a.index.n a.all.now _ c.requires.2 c.stage_scores.ensures _ c.if-index.true c.stage_scores-then-index.ensures
 
 pub returns-else-index : goal.returns-else-index
 returns-else-index c =
@@ -23,4 +23,4 @@ returns-else-index c =
     ∙ ap (bytes_per_vector c.args.index.bits) c.padded_dim.ensures in
     let a = c.args in
     one-stage (header_of a.index) a.arrays.now.codes.now a.arrays.now.scales.now a.arrays.now.codes2.now a.arrays.now.scales2.now a.centroids.now a.prepared.now _
-    size_is a.marks.now a.n a.all.now _ c.requires.2 c.stage_scores.ensures c.if-index.false
+    size_is a.marks.now a.index.n a.all.now _ c.requires.2 c.stage_scores.ensures c.if-index.false

@@ -8,6 +8,6 @@ use Rattle.write.proofs.Writer.put_entries.Given as goal
 
 abbrev pub invariant-loop-i : goal.invariant-loop-i
 invariant-loop-i l = record {
-  put : Put (in_order (key_piece l.keys l.keyed l.alive) l.i) l.initial.self l.self;
-  numbered : l.number ≡ count (live_at l.alive) (below l.i);
+  put : Put (in_order (key_piece l.arrays.keys.now l.arrays.keyed.now l.arrays.alive.now) l.i) l.initial.self l.self;
+  numbered : l.number ≡ count (live_at l.arrays.alive.now) (below l.i);
 }
