@@ -8,9 +8,9 @@ ghost use Rattle.lloyd.specs.Tables.{boundaries_of};
 ghost use Rattle.lloyd.specs.Quantizer.{quantized, centroid_at, quantizable, coded_into, coded_squares, sum_at};
 ghost use Rattle.lloyd.specs.Sound.{Rises};
 
-// The code of x over n boundaries that rise: at least `code` and at most `code + left`, and each turn halves `left`, hence a while. At 15, 31 and 63 the comparisons
-// are those of the Rust's search. Not by `partition_point`: it takes the count from the slice, where here it can be a constant (see `Boundaries`), and its result is
-// known only once the test is shown to part the whole slice in two.
+// The code of x over n boundaries that rise: at least `code` and at most `code + left`, and each turn halves `left`, hence a while. At 15, 31 and 63 the
+// comparisons are those of the Rust's search. Not by `partition_point`: it takes the count from the slice, where here it can be a constant (see `Boundaries`),
+// and its result is known only once the test is shown to part the whole slice in two.
 fn halving(boundaries: &[f32], x: f32, n: usize) -> usize
     requires rises { Rises boundaries.now }
     requires n_value { n ≡ length boundaries.now }
