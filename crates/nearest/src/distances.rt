@@ -14,6 +14,7 @@ use index::Index;
 // ---- the query
 
 // Writes the top two bits of the code, by a table, of each of the first `lanes` entries of a prepared query.
+// One of the two slices goes by index, here and below: where iter_mut() is zipped, nothing is known after the loop of the entries that were written.
 fn write_tops(boundaries: &[f32], query: &[f32], rnorm: f32, lanes: usize, tops: &mut [u8])
     requires { (length boundaries.now ≤ 15) × (lanes ≤ length query.now) × (lanes ≤ length tops.old) }
     ensures { tops.new ≡ over (tab (λ i. top_of boundaries.now rnorm (get_or query.now i nan)) lanes) tops.old }
