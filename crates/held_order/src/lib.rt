@@ -17,7 +17,7 @@ fn number(held: &mut [u32])
     }
 }
 
-// The position after that of an entry's slot; 0 where there is no entry. An entry is a place plus one, as previous writes it, and 0 for none.
+// The position after that of an entry's slot; 0 for the entry 0, which stands for none (previous says why).
 fn next_position(held: &[u32], entry: usize) -> u32
     requires { (entry ≤ length held.now) × ((j : ℕ) → entry ≡ suc j → get_or held.now j 0 < 65536) }
     ensures { result ≡ after_entry held.now entry }
@@ -28,13 +28,13 @@ fn next_position(held: &[u32], entry: usize) -> u32
     held[entry - 1] + 1
 }
 
-// Gives each slot the position after that of its entry's slot. By index: a position is read that an earlier step wrote.
+// Gives each slot the position after that of its entry's slot. By index in `held`: a position is read that an earlier step wrote.
 fn place_all(before: &[u32], held: &mut [u32])
     requires { (length held.old ≤ length before.now) × (length held.old ≤ 65536) × ((j : ℕ) → j < length held.old → get_or before.now j 0 ≤ j) }
     ensures { Placed before.now held.new (length held.old) }
 {
-    for i in 0..held.len() {
-        held[i] = next_position(held, before[i] as usize);
+    for (i, entry) in before[..held.len()].iter().enumerate() {
+        held[i] = next_position(held, *entry as usize);
     }
 }
 

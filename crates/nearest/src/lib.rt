@@ -38,7 +38,7 @@ fn tally(distances: &[u32], counts: &mut [u32])
     }
 }
 
-// The limit of the r nearest slots. There is a count for each distance up to 12,289, that of dead slots.
+// The limit of the r nearest slots. There is a count for each distance up to 12,289, that of dead slots, which are no candidates.
 fn find_limit(distances: &[u32], r: usize) -> Limit
     requires few { length distances.now ≤ 65536 }
     requires low { Each (λ d. d < 12290) distances.now }
@@ -47,11 +47,13 @@ fn find_limit(distances: &[u32], r: usize) -> Limit
     let mut counts = [0u32; 12290];
     tally(distances, &mut counts);
     let mut nearer = 0;
-    for distance in 0..12289u32 {
-        let reached = nearer + counts[distance as usize] as usize;
+    for (distance, count) in counts[..12289].iter().enumerate() {
+        let reached = nearer + *count as usize;
         if r <= reached {
-            let ties = r - nearer;
-            return Limit { distance, ties };
+            return Limit {
+                distance: distance as u32,
+                ties: r - nearer,
+            };
         }
         nearer = reached;
     }
@@ -71,7 +73,8 @@ impl Limit {
         distance < self.distance || distance == self.distance && seen < self.ties
     }
 
-    // Marks the slots that are within the limit.
+    // Marks the slots that are within the limit. By index in `marks`: where iter_mut() is zipped, nothing is known after the loop of the entries that were
+    // written.
     fn mark(self, distances: &[u32], marks: &mut [u8])
         requires { length distances.now ≤ length marks.old }
         ensures { marks.new ≡ over (tab (λ i. bit (is_marked distances.now self.distance self.ties i)) (length distances.now)) marks.old }

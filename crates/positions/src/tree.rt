@@ -1,6 +1,6 @@
-// Whether positions are in order, by a tree in which the keyed slots are entered. The tree is an array of slots, and its branches are places in it, since there is
-// no heap: a place holds a slot plus one, or 0 where it is free, since an Option would take twice the places. The slot that holds a position of a key is found
-// there in a few steps, and in at most 64 whatever the keys are.
+// Whether positions are in order, by a tree in which the keyed slots are entered. The tree is an array of slots, and its branches are places in it, since there
+// is no heap: a place holds a slot plus one, or 0 where it is free. An Option would take twice the memory, and the largest tree takes half of the stack that a
+// call may have. The slot that holds a position of a key is found there in a few steps, and in at most 64 whatever the keys are.
 ghost use Rattle.std.specs.Prelude.{◌≡◌, ℕ, suc, ◌+◌, ◌-◌, ◌*◌, ◌^◌, ◌≤◌, ◌<◌, length, get_or};
 ghost use Rattle.positions.specs.Decides.{Decides};
 ghost use Rattle.positions.specs.Lent.{keys_of};
@@ -26,8 +26,8 @@ fn branch_of(entry: u32, roots: usize, bits: u64) -> usize
     roots + 2 * (entry as usize - 1) + (bits % 2) as usize
 }
 
-// The tree is lent beside its number of roots: a struct of both would still have to say at each call which slots have been entered by then, as `Grown` does here.
-// So its length is a clause too.
+// The tree is lent beside its number of roots: a struct of both would still have to say at each call which slots have been entered by then, as `Grown` does
+// here. So its length is a clause too.
 impl HeldKeys<'_> {
     // Whether a walk goes on from a place: a slot stands there that holds something else.
     fn passes(&self, tree: &[u32], place: usize, key: u64, position: u32) -> bool
@@ -42,9 +42,9 @@ impl HeldKeys<'_> {
         self.keys[slot] != key || self.held[slot] != position
     }
 
-    // The place where the walk of a key's position ends. It has at most 64 steps: of the pairs that share a root no two have the same key, since their positions are
-    // below `roots`, and each step takes one bit of the key.
-    // A while: nothing that could be counted or iterated over says where the walk ends.
+    // The place where the walk of a key's position ends. It has at most 64 steps: of the pairs that share a root no two have the same key, since their
+    // positions are below `roots`, and each step takes one bit of the key.
+    // A while: a for over 64 steps would need an answer for an end that is never reached.
     fn find(&self, tree: &[u32], roots: usize, key: u64, position: u32) -> usize
         requires { Tree self.now.keys.now self.now.held.now roots tree.now }
         ensures { Ends self.now.keys.now self.now.held.now roots tree.now key position result }
@@ -58,7 +58,8 @@ impl HeldKeys<'_> {
         place
     }
 
-    // Enters a slot. False where its position is too high for any key, where the walk meets a slot that holds the same, and where a slot without a key doesn't hold 0.
+    // Enters a slot. False where its position is too high for any key, where the walk meets a slot that holds the same, and where a slot without a key doesn't
+    // hold 0.
     fn enter(&self, tree: &mut [u32], roots: usize, slot: usize) -> bool
         requires room { (slot < self.now.n) × (roots + 2 * self.now.n ≤ length tree.old) }
         requires grown { Grown (keys_of self.now) roots slot tree.old }
@@ -79,8 +80,8 @@ impl HeldKeys<'_> {
         true
     }
 
-    // Enters all slots, up to one that fails. By a for: in `all` the closure would change the tree that it captures; of a for the invariant says what the tree is
-    // after each slot.
+    // Enters all slots, up to one that fails. By a for: in `all` the closure would change the tree that it captures; of a for the invariant says what the tree
+    // is after each slot.
     fn enter_all(&self, tree: &mut [u32], roots: usize) -> bool
         requires room { roots + 2 * self.now.n ≤ length tree.old }
         requires grown { Grown (keys_of self.now) roots 0 tree.old }
@@ -108,7 +109,8 @@ impl HeldKeys<'_> {
         tree[place] != 0
     }
 
-    // Whether that is so of every slot. By a for: of `all` the proof would have to say first what the list of slots is, and what the test says of each.
+    // Whether that is so of every slot. By a for: `all` was tried, and its proof is longer: it says first what the list of slots is, and what the test says of
+    // each.
     fn are_preceded(&self, tree: &[u32], roots: usize) -> bool
         requires grown { Grown (keys_of self.now) roots self.now.n tree.now }
         ensures { Decides result ((j : ℕ) → j < self.now.n → Preceded (keys_of self.now) self.now.n j) }

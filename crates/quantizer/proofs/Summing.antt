@@ -3,13 +3,11 @@ use mathlib.Core.Path.{◌≡◌, refl, sym, ap, ap₂, subst, ◌∙◌}
 use mathlib.Core.Bool.{true, false}
 use mathlib.Core.List.{List, [], ◌∷◌, map}
 use Prim.Native.Nat.{ℕ, ◌+◌, ◌≤◌, ◌<◌}
-use native.Mathlib.Nat.{ne_of_lt}
 use native.Mathlib.Numerals.{add-one}
 use native.Mathlib.Omega.{arith}
-use borrow.Author.Count.{below_more}
 use lib.Dec.{T, leb, lit≤}
 use lib.ListN.{length, get_or, set, take, length-set, length-map, get_or-map}
-use lib.Seq.{take_all, get_or-set_same, get_or-set_other}
+use lib.Seq.{take_all}
 use lib.Ieee.{Float, nan, binary32, of_bits}
 use Rattle.lists.specs.Lists.{over}
 use Rattle.lists.proofs.Laws.{get_d_default, begun, begun-next, begun_all}
@@ -56,13 +54,6 @@ module _ (table boundaries xs : List Float) (start : List ℕ) (i : ℕ) (codes 
 
 abbrev square_at : List Float → ℕ → Float
 square_at centroids k = centroid_at centroids k ⊗ centroid_at centroids k
-
-pub squares-next : (centroids table : List Float) (n : ℕ) (x : Float) → n < length table → x ≡ centroid_at centroids n → ((k : ℕ) → k < n → centroid_at table k ≡ square_at centroids k) →
-    (k : ℕ) → k < n + 1 → centroid_at (set table n (x ⊗ x)) k ≡ square_at centroids k
-squares-next centroids table n x h e before =
-    below_more (λ (k : ℕ). centroid_at (set table n (x ⊗ x)) k ≡ square_at centroids k) n
-    (λ k l. get_or-set_other table n k (x ⊗ x) +0 (ne_of_lt l) ∙ before k l)
-    (get_or-set_same table n (x ⊗ x) +0 h ∙ ap (λ (y : Float). y ⊗ y) e)
 
 pub squares-sum : (centroids table boundaries xs : List Float) → ((k : ℕ) → k ≤ length boundaries → centroid_at table k ≡ square_at centroids k) →
     sum_at table boundaries xs ≡ sum_squares (decoded centroids (map (quantized boundaries) xs))

@@ -8,9 +8,9 @@ ghost use Rattle.lloyd.specs.Tables.{boundaries_of};
 ghost use Rattle.lloyd.specs.Quantizer.{quantized, centroid_at, quantizable, coded_into, coded_squares, sum_at};
 ghost use Rattle.lloyd.specs.Sound.{Rises};
 
-// The code of x over n boundaries that rise: at least `code` and at most `code + left`, and each turn halves `left`, hence a while. At 15, 31 and 63 the comparisons
-// are those of the Rust's search. Not by `partition_point`: it takes the count from the slice, where here it can be a constant (see `Boundaries`), and its result is
-// known only once the test is shown to part the whole slice in two.
+// The code of x over n boundaries that rise: at least `code` and at most `code + left`, and each turn halves `left`, hence a while. At 15, 31 and 63 the
+// comparisons are those of the Rust's search. Not by `partition_point`: it takes the count from the slice, where here it can be a constant (see `Boundaries`),
+// and its result is known only once the test is shown to part the whole slice in two.
 fn halving(boundaries: &[f32], x: f32, n: usize) -> usize
     requires rises { Rises boundaries.now }
     requires n_value { n ≡ length boundaries.now }
@@ -58,9 +58,9 @@ fn squares(centroids: &[f32], n: usize) -> [f32; 256]
     ensures { (k : ℕ) → k ≤ n → centroid_at result k ≡ centroid_at centroids.now k ⊗ centroid_at centroids.now k }
 {
     let mut table = [0.0; 256];
-    for code in 0..n + 1 {
+    for (code, square) in table[..n + 1].iter_mut().enumerate() {
         let c = dequantizer::dequantize_in(centroids, code);
-        table[code] = c * c;
+        *square = c * c;
     }
     table
 }
@@ -89,6 +89,7 @@ impl Boundaries<'_> {
 
     // The code of each value in its place. The result is the sum, in index order, of the entries that a table has for the codes: each addition waits for
     // the one before it, and the next codes are found meanwhile.
+    // By index in `codes`: where iter_mut() is zipped, nothing is known after the loop of the entries that were written.
     fn write_codes(&self, table: &[f32; 256], xs: &[f32], codes: &mut [u8]) -> f32
         requires { (length self.now.all.now ≤ 255) × (length xs.now ≤ length codes.old) }
         ensures sum { result ≡ sum_at table.now self.now.all.now xs.now }
