@@ -52,7 +52,7 @@ impl Tops<'_> {
 
     // How far the query's top bits and those of both codes are apart, summed over n bytes of a block. While the sum is a byte itself, the compiler
     // takes 16 bytes at a time: a byte adds at most 6.
-    // By index: with a zip of the three slices, which was tried, a cascade over 256 entries took 1.05 times as long, and the proof was five times as long.
+    // By index: a zip of the three slices was tried; each has to be cut to the part first, and the proof was five times as long.
     fn few_apart(&self, block: &[u8], from: usize, n: usize) -> u8
         requires { (n ≤ 32) × (from + n ≤ length block.now) × (from + n ≤ self.now.lanes / 2) }
         ensures { bytes_apart self.now.even.now self.now.odd.now block.now from + result ≡
