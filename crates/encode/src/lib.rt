@@ -45,8 +45,8 @@ fn is_codable(bits: u8, boundaries: usize, codes: usize, block: usize) -> bool
     codes <= 4096 && block == codes::bytes_per_vector(codes, bits)
 }
 
-// The centroid of each code. One of the two slices goes by index, here and in `subtract`: where iter_mut() is zipped, nothing is known after the loop of the entries
-// that were written.
+// The centroid of each code. What is written goes by index, here and in `subtract`, and there what is read beside it: where iter_mut() is zipped, nothing is
+// known after the loop of the entries that were written.
 fn decode(centroids: &[f32], codes: &[u8], out: &mut [f32])
     requires { length out.old ≡ length codes.now }
     ensures { out.new ≡ decoded centroids.now codes.now }
@@ -67,6 +67,7 @@ struct Coder<'a> {
 
 impl Coder<'_> {
     // One stage: the codes of xs into the block, and the centroids that they stand for in d. The sum of squares isn't needed here.
+    // `Fits` is a clause, here and below: it is of the vector and the block too, which each call has of its own.
     fn store(&self, xs: &[f32], d: &mut [f32], block: &mut [u8])
         requires codable { Fits self.now.bits (length self.now.boundaries.now) (length xs.now) (length block.old) }
         requires d_len { length d.old ≡ length xs.now }

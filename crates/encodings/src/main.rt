@@ -97,6 +97,7 @@ fn put_answer(out: &mut Printer<'_>, line: &[u8]) -> Option<()> {
     Some(())
 }
 
+// `exercise` has one too: a crate of the two lines would be longer.
 fn put_refused(out: &mut Printer<'_>, fault: u8) {
     out.put_bytes(b"refused ");
     numerals::put_decimal(out, fault as u64);
@@ -159,7 +160,8 @@ fn put_encoding(
     put_slot(out, header.residual, s, block, block2);
 }
 
-// The encoding by the tables of the width. There is one boundary fewer than there are centroids.
+// The encoding by the tables of the width. There is one boundary fewer than there are centroids. `place` has the like for the record of an index; what both
+// share is `encode::encode`.
 fn encode_by_width(
     header: Header,
     fresh: bool,
@@ -366,7 +368,7 @@ fn header_at(line: &[u8], count: usize) -> Option<Header> {
 
 fn width_at(line: &[u8], i: usize) -> Option<u8> {
     let width = values::number_at(line, i, 6)?;
-    if 4 <= width { Some(width as u8) } else { None }
+    (4 <= width).then_some(width as u8)
 }
 
 // DIM, WORKING and SEED from field i on, in a line of count fields.

@@ -687,7 +687,7 @@ impl Element for u64 {
 
 impl Element for bool {
     fn of_number(x: u64) -> Option<bool> {
-        if x <= 1 { Some(x == 1) } else { None }
+        (x <= 1).then_some(x == 1)
     }
 }
 
@@ -1089,6 +1089,7 @@ fn put_with(out: &mut Printer<'_>, word: &[u8], number: u64, digits: usize) {
     numerals::put_hex(out, number, digits);
 }
 
+// `encodings` has one too: a crate of the two lines would be longer.
 fn put_refused(out: &mut Printer<'_>, number: u8) {
     out.put_bytes(b"refused ");
     numerals::put_decimal(out, number as u64);

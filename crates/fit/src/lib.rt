@@ -34,11 +34,12 @@ fn mark_fits(keyed: bool, mark: u8) -> bool
 
 // Whether that is so of each slot. No mark ends the loop, so that the compiler takes many slots at a time.
 fn each_fits(keyed: &[bool], alive: &[u8]) -> bool
+    requires { length alive.now ≡ length keyed.now }
     ensures { Decides result (EachMarked keyed.now alive.now (length keyed.now)) }
 {
     let mut all = true;
-    for (i, on) in keyed.iter().enumerate() {
-        all = all & mark_fits(*on, marks::live_mark(alive, i));
+    for (on, mark) in keyed.iter().zip(alive) {
+        all = all & mark_fits(*on, *mark);
     }
     all
 }

@@ -5,7 +5,8 @@
 ghost use Rattle.std.specs.Prelude.{◌≡◌};
 ghost use Rattle.index.specs.Lent.{contents, contents_mut};
 
-// What the index is beside its lent arrays. It goes in by value and comes back in the answer.
+// What the index is beside its lent arrays. It goes in by value and comes back in the answer. The first five fields are those of encode's `Header`, here once
+// more: to callers and to C the record is one.
 #[derive(Clone, Copy)]
 pub struct Index {
     pub dim: usize,

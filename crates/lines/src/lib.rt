@@ -79,6 +79,7 @@ impl<'a, R: Read> Lines<'a, R> {
 }
 
 // The next line, and what is unread after it. Nothing says that the input ends, so the reads are counted, up to a number that no run uses up.
+// That a part lies within the buffer is a clause, here and below: the buffer is changed, and a struct of both would be made anew for each part.
 fn next_in<R: Read>(
     reader: &mut R,
     buf: &mut [u8],

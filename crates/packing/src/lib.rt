@@ -7,7 +7,7 @@ ghost use Rattle.digits.specs.Digits.{number, digits, Below, digits_below};
 ghost use Rattle.codes.specs.Packing.{spare, packed};
 ghost use Rattle.codes.specs.Writing.{packable, Packable, repacked, spare_after};
 
-// 2 to the power k.
+// 2 to the power k. By name: at each use a shift would have to be shown to fit again.
 fn power(k: u8) -> u64
     requires { k ≤ 56 }
     ensures { result ≡ 2 ^ k }

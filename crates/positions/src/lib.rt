@@ -106,7 +106,7 @@ impl<'a> HeldKeys<'a> {
         }
     }
 
-    // Whether each keyed slot follows the one before it. Then the positions are in order.
+    // Whether each keyed slot follows the one before it. Then the positions are in order. By slot: what a turn hands on is a slot.
     fn rise(&self) -> bool
         ensures { result ≡ true → Ordered (keys_of self.now) self.now.n }
     {

@@ -95,7 +95,8 @@ impl InHex for bool {
     ghost width = { Prim.search rules };
 }
 
-// A vector: the patterns of its entries in eight digits each, run together; `-` where it has none.
+// A vector: the patterns of its entries in eight digits each, run together; `-` where it has none. Two names for one function: the clauses say of each what
+// its digits are.
 pub fn put_vector(out: &mut Printer<'_>, v: &[f32])
     ensures { Printed (run_text 8 (to_bits binary32) v.now) out.old out.new }
 {

@@ -86,7 +86,8 @@ fn halve(query: &[f32], evens: &mut [f32], odds: &mut [f32])
 
 // ---- bytes and sums in arrays
 
-// Five bytes as one number. No loop over them: unrolled too late, it would read them one by one, which takes 1.3 times as long.
+// Five bytes as one number. No loop over them: unrolled too late, it would read them one by one, which takes 1.3 times as long:
+// then a search at 5 bits would miss its goal, 7 times the Rust.
 fn word_five(block: &[u8], at: usize) -> u64
     requires { at + 5 ≤ length block.now }
     ensures { (result ≡ number 256 (take 5 (drop at block.now))) × (result < 0x100_0000_0000) }
@@ -150,7 +151,7 @@ fn raw_of(bits: u8, sums: &[f32], k: usize) -> f32
 impl<'a> Tabled<'a> {
     // ---- 4 bits: a byte is a pair of codes
 
-    // What byte i of a block adds.
+    // What byte i of a block adds. That a block is no longer than half the query is a clause, here and below: it comes from a slot, of which the struct has none.
     #[tactic(auto, unfolding(crate::specs::Pairs::byte_term))]
     fn byte_term(&self, block: &[u8], i: usize) -> f32
         requires { (i < length block.now) × (length block.now ≤ length self.now.of.query.now / 2) }
@@ -283,7 +284,8 @@ impl<'a> Tabled<'a> {
         put(sums, at, self.byte_lanes(self.block(slot)));
     }
 
-    // Those of `many` slots from `first` on at 5 or 6 bits. A neighbour of a marked slot comes along.
+    // Those of `many` slots from `first` on at 5 or 6 bits. A neighbour of a marked slot comes along. That there are 5 bits or 6
+    // is a clause, here and below: the struct is of all widths.
     fn sum_wide(&self, first: usize, many: usize, sums: &mut [f32])
         requires width { 5 ≤ self.now.of.bits }
         requires arrays { (first + many ≤ self.now.of.n) × (many * 4 ≤ length sums.old) }

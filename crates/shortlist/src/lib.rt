@@ -19,11 +19,9 @@ fn entry(from: &[u32], place: u32) -> u32
 // ---- the guess, on which only speed rests
 
 // Copies every 33rd order number: an odd number, since what alternates among slots mostly does so by an even one.
-fn draw(orders: &[u32], sample: &mut [u32])
-    requires { length sample.old * 33 ≤ length orders.now }
-{
-    for (i, order) in sample.iter_mut().enumerate() {
-        *order = orders[i * 33];
+fn draw(orders: &[u32], sample: &mut [u32]) {
+    for (drawn, order) in sample.iter_mut().zip(orders.iter().step_by(33)) {
+        *drawn = *order;
     }
 }
 
@@ -135,7 +133,7 @@ fn choose_few(orders: &[u32], k: usize, slots: &mut [u32]) -> usize
 fn is_few(k: usize, all: usize) -> bool
     ensures { result ≡ true → (all ≤ 65536) × (k ≤ 65536) }
 {
-    1024 < all && all <= 65536 && k <= all / 32
+    (1025..=65536).contains(&all) && k <= all / 32
 }
 
 // Writes the numbers of the chosen slots to the first places of `slots`, and returns how many there are: what `choose_slots::choose` does.

@@ -1,12 +1,14 @@
 -- What it takes for a field to be a number, a vector or a run of bytes.
-use mathlib.Core.Path.{◌≡◌}
-use mathlib.Core.Bool.{true, ◌&&◌}
+use mathlib.Core.Path.{◌≡◌, sym}
+use mathlib.Core.Bool.{Bool, true, false, ◌&&◌}
 use mathlib.Core.List.{List}
 use Prim.Native.Nat.{ℕ, ◌/◌, ◌%◌}
 use native.Mathlib.Nat.{mul_comm, div-mul-le_self}
 use borrow.Author.Tests.{leb-true}
 use lib.Dec.{ltb, leb, eqb}
 use lib.ListN.{length}
+use Rattle.std.specs.Prelude.{IfSome}
+use Rattle.std.specs.Bool.{then_some}
 use Rattle.values.specs.Reading.{are_digits, is_run, IsRun}
 use Rattle.lists.proofs.Tests.{both}
 
@@ -21,3 +23,7 @@ run_is w room f h =
       digits = λ _. h₃.1;
       whole = λ _. rw mul_comm (div-mul-le_self (length f) w);
     }
+
+pub if_run : (w room : ℕ) (f : List ℕ) (b : Bool) → b ≡ is_run w room f → IfSome (then_some b (length f / w)) (IsRun w room f)
+if_run w room f true e = run_is w room f (sym e)
+if_run w room f false e = tt

@@ -19,7 +19,7 @@ pub fn number_at(line: &[u8], i: usize, most: u64) -> Option<u64>
 }
 
 // Field i as a vector, read into the first places of out, and how many entries it has. Where the field is no vector, or has more entries
-// than out, nothing is read.
+// than out, nothing is read. Two names for one function: what a vector and what bytes are is defined apart, and the clauses say it.
 pub fn vector_at(line: &[u8], i: usize, out: &mut [f32]) -> Option<usize>
     ensures run { result ≡ run_of 8 (length out.old) (field_at line.now i) }
     ensures read { MatchOption result (out.new ≡ out.old)
@@ -51,14 +51,14 @@ fn read_number(field: &[u8], most: u64) -> Option<u64>
         return None;
     }
     let n = value(field)?;
-    if n <= most { Some(n) } else { None }
+    (n <= most).then_some(n)
 }
 
 #[tactic(auto, unfolding(crate::specs::Reading::leads_with_zero))]
 fn leads_with_zero(field: &[u8]) -> bool
     ensures { result ≡ leads_with_zero field.now }
 {
-    2 <= field.len() && field[0] == b'0'
+    matches!(field, [b'0', _, ..])
 }
 
 // The value of a hexadecimal digit, in lower case.
@@ -160,11 +160,7 @@ fn run_of(field: &[u8], width: usize, room: usize) -> Option<usize>
     if matches!(field, [b'-']) {
         return Some(0);
     }
-    if is_run(field, width, room) {
-        Some(field.len() / width)
-    } else {
-        None
-    }
+    is_run(field, width, room).then_some(field.len() / width)
 }
 
 #[tactic(auto, unfolding(crate::specs::Reading::is_run))]

@@ -1,6 +1,5 @@
-use Rattle.std.proofs.Common.{sym, ◌∙◌}
-use Rattle.values.proofs.Runs.{run_is}
+use Rattle.values.proofs.Runs.{if_run}
 use Rattle.values.proofs.run_of.Goals as goal
 
-pub returns-then-is_run-clause-run : goal.returns-then-is_run-clause-run
-returns-then-is_run-clause-run c = run_is c.args.width c.args.room c.args.field.now (sym c.is_run.ensures ∙ c.if-is_run.true)
+pub returns-clause-run : goal.returns-clause-run
+returns-clause-run c = rw c.then_some.ensures (if_run c.args.width c.args.room c.args.field.now _ c.is_run.ensures)
