@@ -51,7 +51,7 @@ impl Hits<'_> {
     }
 
     // Writes those of the first n places that are the first of their keys, and returns how many they are. Names and scores are two slices, since C lends them so.
-    // By index: three slices are read at it.
+    // By index: `write_place` reads three slices at it; a zip of three, each cut to n, would be longer.
     fn write_firsts(&self, before: &[u32], names: &mut [u64], scores: &mut [f32], n: usize) -> usize
         requires lists { (n ≤ length self.now.slots.now) × (n ≤ length self.now.scores.now) × (n ≤ length before.now) }
         requires room { (n ≤ length names.old) × (n ≤ length scores.old) }

@@ -92,7 +92,7 @@ impl<'a> Block<'a> {
         acc
     }
 
-    // The tail: the sum over the bytes past the groups of eight.
+    // The tail: the sum over the bytes past the groups of eight. By index, here and in `wide_lanes`: each term reads the codes and the query at it.
     fn byte_tail(&self) -> f32
         requires { self.now.bits ≡ 4 }
         ensures { result ≡ sum_of (drop (length self.now.query.now / 2 / 8 * 8)

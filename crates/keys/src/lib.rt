@@ -12,7 +12,8 @@ ghost use Rattle.index.specs.Answers.{result_of, key_is, asked, held_is};
 use index::{Index, Lent};
 use refusal::Refusal;
 
-// The key of a slot; none past the slots in use. By cases, here and in `slot_at`: with `then_some`, which was tried, the proof has to take them apart again.
+// The key of a slot; none past the slots in use. By cases, here and in `slot_at`: `then_some` was tried; it is as long, and needs a lemma that takes the cases
+// apart again.
 pub fn key_of(index: Index, arrays: &Lent<'_>, slot: usize) -> Result<Option<u64>, Refusal>
     ensures { let a = contents arrays.now in
         result_of index a (key_is (verdict result)) ≡ call index a (key_of slot) }

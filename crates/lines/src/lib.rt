@@ -103,11 +103,7 @@ fn next_in<R: Read>(
         let kept = keep(buf, part);
         let got = read_more(reader, buf, kept);
         if got == 0 {
-            let last = if long || 0 < kept {
-                Some(handed(buf, long, 0, kept))
-            } else {
-                None
-            };
+            let last = (long || 0 < kept).then_some(handed(buf, long, 0, kept));
             return (last, Span::EMPTY);
         }
         part = Span {

@@ -1,5 +1,5 @@
-// Live marks, one a slot: 1 for a live slot, 0 for a dead one. They are written here alone, and the mark of one slot is read here;
-// hits and scan read the array itself as the marks of the slots that take part.
+// Live marks, one a slot: 1 for a live slot, 0 for a dead one. They are written here alone, and whether one slot is live is asked here. fit goes through all of
+// them itself; hits and scan read the array itself as the marks of the slots that take part.
 #![tactic(auto)]
 
 ghost use Rattle.std.specs.Prelude.{◌≡◌, min, length, get_or, set};

@@ -45,7 +45,7 @@ fn remove_slot_of(
     }
 }
 
-// Leaves the slots of the key dead.
+// Leaves the slots of the key dead. By index: three arrays change at it, and of what a zipped iter_mut() lends nothing is known after the write.
 fn remove_slots(
     keys: &[u64],
     keyed: &mut [bool],

@@ -86,8 +86,8 @@ fn halve(query: &[f32], evens: &mut [f32], odds: &mut [f32])
 
 // ---- bytes and sums in arrays
 
-// Five bytes as one number. No loop over them: unrolled too late, it would read them one by one, and a scan at 5 bits takes 1.3 times as long. By that a search,
-// 8 times as fast as the Rust's, would be below its goal of 7.
+// Five bytes as one number. No loop over them: unrolled too late, it would read them one by one, and a scan at 5 bits took 1.3 times as long (measured). A search,
+// 8.0 to 8.6 times as fast as the Rust's, would miss its goal of 7 by that (reckoned).
 fn word_five(block: &[u8], at: usize) -> u64
     requires { at + 5 ≤ length block.now }
     ensures { (result ≡ number 256 (take 5 (drop at block.now))) × (result < 0x100_0000_0000) }
@@ -151,7 +151,7 @@ fn raw_of(bits: u8, sums: &[f32], k: usize) -> f32
 impl<'a> Tabled<'a> {
     // ---- 4 bits: a byte is a pair of codes
 
-    // What byte i of a block adds. That a block is no longer than half the query is a clause, here and below: it comes from a slot, of which the struct has none.
+    // What byte i of a block adds. That a block is no longer than half the query is a clause, here and below: the block is that of a slot, and the struct has no slot.
     #[tactic(auto, unfolding(crate::specs::Pairs::byte_term))]
     fn byte_term(&self, block: &[u8], i: usize) -> f32
         requires { (i < length block.now) × (length block.now ≤ length self.now.of.query.now / 2) }
@@ -256,8 +256,8 @@ impl<'a> Tabled<'a> {
         &self.of.codes[from..from + self.of.size]
     }
 
-    // The sums of `many` slots from `first` on at 4 bits, as far as they are marked. That these slots are in use is a clause here and below: a struct of the two
-    // numbers with a ghost field would be longer.
+    // The sums of `many` slots from `first` on at 4 bits, as far as they are marked. By index: of what `chunks_exact_mut` lends nothing is known after the write.
+    // That these slots are in use is a clause here and below: a struct of the two numbers with a ghost field would be longer.
     fn sum_bytes(&self, first: usize, many: usize, sums: &mut [f32])
         requires width { self.now.of.bits ≡ 4 }
         requires arrays { (first + many ≤ self.now.of.n) × (many * 8 ≤ length sums.old) }

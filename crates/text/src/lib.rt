@@ -9,7 +9,7 @@ ghost use Rattle.text.specs.Fields.{fields, field_at, is_silent, Named};
 pub fn is_silent(line: &[u8]) -> bool
     ensures { result ≡ is_silent line.now }
 {
-    line.is_empty() || line[0] == b'#'
+    matches!(line, [] | [b'#', ..])
 }
 
 // What stands beside a word in a table: beside its first place there.
