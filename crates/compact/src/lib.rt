@@ -20,8 +20,8 @@ use refusal::Refusal;
 
 // ---- which slots stay
 
-// Writes the numbers of the live slots, in slot order, and returns how many there are. By index: the index is what is written, and `alive` may be shorter
-// than n, where `alive[..n]` would fail.
+// Writes the numbers of the live slots, in slot order, and returns how many there are. By index: it is what is written, and what `is_live` is asked of;
+// past the end of `alive` a slot is dead.
 fn live_slots(alive: &[u8], n: usize, slots: &mut [u32]) -> usize
     requires { (n ≤ length slots.old) × (n ≤ 65536) }
     ensures value { result ≡ length (live_slots alive.now n) }
@@ -39,7 +39,8 @@ fn live_slots(alive: &[u8], n: usize, slots: &mut [u32]) -> usize
 
 // ---- entries and blocks move down
 
-// `Downward` is a clause, here and below: it is of the length of the array that moves too, which differs from call to call.
+// `Downward` is a clause, here and below: it is of the length of the array that moves too, which differs from call to call, so a struct with it
+// would be made anew for each.
 fn gather<T: Copy>(xs: &mut [T], slots: &[u32], n: usize)
     requires { Downward slots.now n (length xs.old) }
     ensures { (d : _) → xs.new ≡ gathered slots.now n d xs.old }

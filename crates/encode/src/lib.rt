@@ -45,8 +45,8 @@ fn is_codable(bits: u8, boundaries: usize, codes: usize, block: usize) -> bool
     codes <= 4096 && block == codes::bytes_per_vector(codes, bits)
 }
 
-// The centroid of each code. What is written goes by index, here and in `subtract`: of what a zipped iter_mut() lends nothing is known after the loop. There
-// what is read beside it goes by index too, which is there already: a zip inside the `enumerate` is no plainer.
+// The centroid of each code. What is written goes by index, here and in `subtract`: of what a zipped iter_mut() lends nothing is known after the loop.
+// In `subtract` `ys` is read by the same index: `xs.iter().zip(ys).enumerate()` is no plainer.
 fn decode(centroids: &[f32], codes: &[u8], out: &mut [f32])
     requires { length out.old ≡ length codes.now }
     ensures { out.new ≡ decoded centroids.now codes.now }

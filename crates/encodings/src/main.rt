@@ -160,8 +160,8 @@ fn put_encoding(
     put_slot(out, header.residual, s, block, block2);
 }
 
-// The encoding by the tables of the width. There is one boundary fewer than there are centroids. `place` has the like, which chooses the same tables. One for
-// both would be public, with the clause `0 < levels_of bits`, or a crate for one call, and no plainer.
+// The encoding by the tables of the width. There is one boundary fewer than there are centroids. `place` has the like, by the same tables, for the record of an
+// index. One function for both would need a crate, longer than these few lines.
 fn encode_by_width(
     header: Header,
     fresh: bool,

@@ -318,14 +318,8 @@ impl Command {
         let word = text::field(line, 0);
         let name = text::field(line, 1);
         match word {
-            b"set" => {
-                let array = text::named(&ARRAYS, name)?;
-                Some(Command::Set(array))
-            }
-            b"field" => {
-                let field = text::named(&FIELDS, name)?;
-                Some(Command::Field(field))
-            }
+            b"set" => text::named(&ARRAYS, name).map(Command::Set),
+            b"field" => text::named(&FIELDS, name).map(Command::Field),
             _ => text::named(&COMMANDS, word),
         }
     }
@@ -558,8 +552,7 @@ fn lengths_of(line: &[u8]) -> Option<Lengths> {
 }
 
 fn length_at(line: &[u8], i: usize, most: u64) -> Option<usize> {
-    let n = values::number_at(line, i, most)?;
-    Some(n as usize)
+    values::number_at(line, i, most).map(|n| n as usize)
 }
 
 // ---- changes
@@ -695,10 +688,10 @@ fn poke<T: Element>(xs: &mut [T], i: usize, x: u64) -> bool {
     let Some(element) = T::of_number(x) else {
         return false;
     };
-    if xs.len() <= i {
+    let Some(place) = xs.get_mut(i) else {
         return false;
-    }
-    xs[i] = element;
+    };
+    *place = element;
     true
 }
 

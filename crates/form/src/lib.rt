@@ -16,7 +16,7 @@ pub fn form_of(version: u16) -> Form
     ensures { result ≡ form_of version }
 {
     Form {
-        known: version == 1 || (257..=261).contains(&version),
+        known: matches!(version, 1 | 257..=261),
         scale: if version == 1 { 4 } else { 2 },
         width: version == 261,
         second: version == 260,

@@ -120,7 +120,7 @@ fn enter_slot(marks: &[u8], slot: usize, all: &mut [f32], orders: &mut [u32]) ->
 }
 
 // Enters the slots below n, whose scores are there. False, at the first NaN, where one of them that takes part has a NaN for its score.
-// By a for: in the iterator's `all` the closure would change the two arrays that it captures; of a for the invariant says what they are after each slot.
+// By a for: in the iterator's `all` the closure would change the two arrays, and nothing would say what they are afterwards; a for has an invariant that says it.
 fn enter_orders(marks: &[u8], n: usize, all: &mut [f32], orders: &mut [u32]) -> bool
     requires { (n ≤ length all.old) × (n ≤ length orders.old) }
     ensures { EntersSlots (λ i. get_or all.old i nan) marks.now n

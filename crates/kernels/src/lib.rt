@@ -92,7 +92,8 @@ impl<'a> Block<'a> {
         acc
     }
 
-    // The tail: the sum over the bytes past the groups of eight. By index, here and in `wide_lanes`: each term reads the codes and the query at it.
+    // The tail: the sum over the bytes past the groups of eight. By index, here and in `wide_lanes`: codes and query are
+    // read at it, a byte for two entries or by `unpack_code`; a zip would be longer.
     fn byte_tail(&self) -> f32
         requires { self.now.bits ≡ 4 }
         ensures { result ≡ sum_of (drop (length self.now.query.now / 2 / 8 * 8)

@@ -12,20 +12,14 @@ ghost use Rattle.index.specs.Answers.{result_of, key_is, asked, held_is};
 use index::{Index, Lent};
 use refusal::Refusal;
 
-// The key of a slot; none past the slots in use. By cases, here and in `slot_at`: `then_some` was tried; it is as long, and needs a lemma that takes the cases
-// apart again.
+// The key of a slot; none past the slots in use.
 pub fn key_of(index: Index, arrays: &Lent<'_>, slot: usize) -> Result<Option<u64>, Refusal>
     ensures { let a = contents arrays.now in
         result_of index a (key_is (verdict result)) ≡ call index a (key_of slot) }
 {
     fit::check(index, arrays)?;
-    if index.n <= slot {
-        return Ok(None);
-    }
-    if slot_keys::is_keyed(arrays.keyed, slot) {
-        return Ok(Some(slot_keys::key_word(arrays.keys, slot)));
-    }
-    Ok(None)
+    let keyed = slot < index.n && slot_keys::is_keyed(arrays.keyed, slot);
+    Ok(keyed.then_some(slot_keys::key_word(arrays.keys, slot)))
 }
 
 // Whether a key has a slot.
@@ -56,8 +50,5 @@ pub fn slot_at(
         key,
         position,
     );
-    if slot < index.n {
-        return Ok(Some(slot));
-    }
-    Ok(None)
+    Ok((slot < index.n).then_some(slot))
 }

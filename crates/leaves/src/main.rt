@@ -174,7 +174,7 @@ fn range(line: &[u8]) -> Option<(u64, u64)>
     ensures { IfSome result (λ x. x.1 ≤ 65536) }
 {
     let (from, to) = two(line, 3, 0x10000, 0x10000)?;
-    (from <= to && to - from <= 4096).then_some((from, to))
+    (from..=from + 4096).contains(&to).then_some((from, to))
 }
 
 // ---- commands that answer with one number

@@ -119,7 +119,7 @@ fn within(part: Span, len: usize) -> Span
     ensures value { result ≡ clipped len part }
     ensures within { Within len result }
 {
-    if part.from <= part.to && part.to <= len {
+    if (part.from..=len).contains(&part.to) {
         return part;
     }
     Span::EMPTY

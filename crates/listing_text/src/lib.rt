@@ -151,6 +151,7 @@ fn put_slot(out: &mut Printer<'_>, keys: &[u64], keyed: &[bool], slot: u32, half
     put_half(out, half);
 }
 
+// By slot: its number is printed, and `keys`, `keyed` and the file are read at it.
 fn put_slots(out: &mut Printer<'_>, keys: &[u64], keyed: &[bool], file: &[u8])
     ensures { Printed (lines_of file.now (key_at keys.now keyed.now)) out.old out.new }
 {

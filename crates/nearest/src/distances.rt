@@ -78,7 +78,8 @@ impl Tops<'_> {
         sum + self.few_apart(block, n / 32 * 32, n % 32) as u32
     }
 
-    // The sum over the lanes from `from` on, one by one. By index: `unpack_code` takes the lane's number too.
+    // The sum over the lanes from `from` on, one by one. By index: `unpack_code` takes the lane's number too, and
+    // `enumerate().skip(from)` is no plainer.
     fn rest_apart(&self, block: &[u8], from: usize) -> u32
         requires { from ≤ self.now.lanes }
         ensures { lanes_apart self.now.all.now block.now from + result ≡ lanes_apart self.now.all.now block.now self.now.lanes }

@@ -22,7 +22,7 @@ struct HeldKeys<'a> {
 impl<'a> HeldKeys<'a> {
     ghost use Rattle.positions.specs.Lent.{keys_of};
 
-    // The arrays, where they have the first n slots, at most 65,536.
+    // The arrays, where they have the first n slots, at most 65,536. By cases: `then_some` would make the struct before its `room` is known.
     fn new(keys: &'a [u64], keyed: &'a [bool], held: &'a [u32], n: usize) -> Option<Self>
         ensures { MatchOption result (Room (lent_keys keys.entry keyed.entry held.entry) n → ⊥)
             (λ s. (keys_of s ≡ lent_keys keys.entry keyed.entry held.entry) × (s.n ≡ n)) }
@@ -124,6 +124,7 @@ impl<'a> HeldKeys<'a> {
 }
 
 // Whether the arrays have the first n slots, at most 65,536, and there each key's t slots hold the positions 0 to t - 1 once each and the others hold 0.
+// By a match: the closure of `is_some_and` would need a clause of its own.
 pub fn positions_fit(keys: &[u64], keyed: &[bool], held: &[u32], n: usize) -> bool
     ensures { result ≡ positions_fit (lent_keys keys.entry keyed.entry held.entry) n }
 {

@@ -80,8 +80,8 @@ impl HeldKeys<'_> {
         true
     }
 
-    // Enters all slots, up to one that fails. By a for: in `all` the closure would change the tree that it captures; of a for the invariant says what the tree
-    // is after each slot.
+    // Enters all slots, up to one that fails. By a for: in the iterator's `all` the closure would change the tree, and nothing would say what it is
+    // afterwards; a for has an invariant that says it.
     fn enter_all(&self, tree: &mut [u32], roots: usize) -> bool
         requires room { roots + 2 * self.now.n ≤ length tree.old }
         requires grown { Grown (keys_of self.now) roots 0 tree.old }

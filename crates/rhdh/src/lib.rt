@@ -46,6 +46,7 @@ impl Rhdh {
     }
 
     // The rotated v, in the first `padded` places of out. Where v or out doesn't fit, or `padded` is no power of two, out is left as it is.
+    // By two comparisons: with `contains` of a range the check doesn't find the proof (tried), and it is no shorter.
     #[tactic(auto, using(crate::proofs::Applied::out_short, crate::proofs::Applied::vector_long, crate::proofs::Applied::no_power, crate::proofs::Applied::power))]
     pub fn apply(self, v: &[f32], out: &mut [f32])
         ensures { out.new ≡ applied self.padded self.seed v.now out.old }

@@ -32,8 +32,8 @@ module _ (l : List ℕ) (at : ℕ) where
   abbrev b : ℕ → ℕ
   b i = get_or l (at + i) 0
 
-  pub six-bytes : at + 6 ≤ length l → number 256 (take 5 (drop at l)) + 1099511627776 * b 5 ≡ number 256 (take 6 (drop at l))
-  six-bytes h = rw (← part-entries 0 5 at l (omega arith), ← part-entries 0 6 at l h) (omega arith)
+  pub number-at : (n : ℕ) → at + n ≤ length l → number 256 (take n (drop at l)) ≡ number 256 (tab b n)
+  number-at n h = ap (number 256) (sym (part-entries 0 n at l h))
 
 -- ---- a part written
 

@@ -86,29 +86,22 @@ fn halve(query: &[f32], evens: &mut [f32], odds: &mut [f32])
 
 // ---- bytes and sums in arrays
 
-// Five bytes as one number. No loop over them: unrolled too late, it would read them one by one, and a scan at 5 bits took 1.3 times as long (measured). A search,
-// 8.0 to 8.6 times as fast as the Rust's, would miss its goal of 7 by that (reckoned).
-fn word_five(block: &[u8], at: usize) -> u64
-    requires { at + 5 ≤ length block.now }
-    ensures { (result ≡ number 256 (take 5 (drop at block.now))) × (result < 0x100_0000_0000) }
-{
-    block[at] as u64
-        + 0x100 * (block[at + 1] as u64)
-        + 0x1_0000 * (block[at + 2] as u64)
-        + 0x100_0000 * (block[at + 3] as u64)
-        + 0x1_0000_0000 * (block[at + 4] as u64)
-}
-
 // W bytes, five or six, as one number.
 fn word<const W: usize>(block: &[u8], at: usize) -> u64
     requires { (5 ≤ W) × (W ≤ 6) × (at + W ≤ length block.now) }
     ensures { result ≡ number 256 (take W (drop at block.now)) }
 {
-    let five = word_five(block, at);
-    if W == 5 {
-        return five;
-    }
-    five + 0x100_0000_0000 * (block[at + 5] as u64)
+    let sixth = if W == 5 { 0 } else { block[at + 5] };
+    u64::from_le_bytes([
+        block[at],
+        block[at + 1],
+        block[at + 2],
+        block[at + 3],
+        block[at + 4],
+        sixth,
+        0,
+        0,
+    ])
 }
 
 // Where the table has the lowest pair of a word.
@@ -151,7 +144,7 @@ fn raw_of(bits: u8, sums: &[f32], k: usize) -> f32
 impl<'a> Tabled<'a> {
     // ---- 4 bits: a byte is a pair of codes
 
-    // What byte i of a block adds. That a block is no longer than half the query is a clause, here and below: the block is that of a slot, and the struct has no slot.
+    // What byte i of a block adds. That a block is no longer than half the query is a clause, here and below: the block is one slot's, lent to each call, and the struct is of all slots.
     #[tactic(auto, unfolding(crate::specs::Pairs::byte_term))]
     fn byte_term(&self, block: &[u8], i: usize) -> f32
         requires { (i < length block.now) × (length block.now ≤ length self.now.of.query.now / 2) }

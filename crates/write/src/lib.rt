@@ -87,7 +87,7 @@ impl Writer<'_> {
     }
 
     // ---- the blocks. A loop each: a trait for what is written of a slot would be longer than the three loops, of which the last
-    // keeps a number besides.
+    // keeps a number besides. By slot: `alive` and others are read at it, and an array may be shorter than n.
 
     fn put_scales(&mut self, scales: &[u32], alive: &[u8], n: usize)
         requires { Room (in_order (scale_piece scales.now alive.now) n) self.old }
