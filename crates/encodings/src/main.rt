@@ -160,8 +160,8 @@ fn put_encoding(
     put_slot(out, header.residual, s, block, block2);
 }
 
-// The encoding by the tables of the width. There is one boundary fewer than there are centroids. `place` has the like, by the same tables, for the record of an
-// index. One function for both would need a crate, longer than these few lines.
+// The encoding by the tables of the width. There is one boundary fewer than there are centroids. `place` has the like for the record of an index.
+// One function for both would stand in `encode`, which takes any table, so that one place chooses it.
 fn encode_by_width(
     header: Header,
     fresh: bool,

@@ -54,7 +54,7 @@ fn is_ready(index: Index, entries: usize) -> bool
 fn is_marked(marks: &[u8], slot: usize) -> bool
     ensures { result ≡ takes_part marks.now slot }
 {
-    slot < marks.len() && 0 < marks[slot]
+    0 < marks.get(slot).copied().unwrap_or(0)
 }
 
 // The scores of the marked slots in use under a prepared query, each in its slot's place. The range of the width and the length of `all` are clauses here and

@@ -92,8 +92,8 @@ impl<'a> Block<'a> {
         acc
     }
 
-    // The tail: the sum over the bytes past the groups of eight. By index, here and in `wide_lanes`: codes and query are
-    // read at it, a byte for two entries or by `unpack_code`; a zip would be longer.
+    // The tail: the sum over the bytes past the groups of eight. By index, here and in `wide_lanes`: a byte has two codes, or
+    // `unpack_code` finds one, so codes and query can't be zipped item by item.
     fn byte_tail(&self) -> f32
         requires { self.now.bits ≡ 4 }
         ensures { result ≡ sum_of (drop (length self.now.query.now / 2 / 8 * 8)

@@ -23,7 +23,7 @@ misfits x a e op = sym (call-misfit x a op e)
 -- ---- the questions
 
 module _ (x : Index) (a : Arrays) (e : fit x a ≡ true) where
-  pub key-asked : (i : ℕ) (k : Option ℕ) → key_answer (get_elem? (state_of x a).slots i) ≡ k → result_of x a (maybe_key k) ≡ call x a (key_of i)
+  key-asked : (i : ℕ) (k : Option ℕ) → key_answer (get_elem? (state_of x a).slots i) ≡ k → result_of x a (maybe_key k) ≡ call x a (key_of i)
   unfolding step
   key-asked i k f = sym (call-answered x a (key_of i) e (maybe_key k) (ap (λ (o : Option ℕ). answered (state_of x a) (maybe_key o)) f))
 
@@ -32,7 +32,7 @@ module _ (x : Index) (a : Arrays) (e : fit x a ≡ true) where
   held-asked j true f = sym (call-answered x a (contains j) e (flag true) (ap (λ (t : Bool). answered (state_of x a) (flag t)) f))
   held-asked j false f = sym (call-answered x a (contains j) e (flag false) (ap (λ (t : Bool). answered (state_of x a) (flag t)) f))
 
-  pub slot-asked : (j p : ℕ) (i : Option ℕ) → slot_holding j p (live_from 0 (state_of x a).slots) ≡ i → result_of x a (maybe_slot i) ≡ call x a (slot_of j p)
+  slot-asked : (j p : ℕ) (i : Option ℕ) → slot_holding j p (live_from 0 (state_of x a).slots) ≡ i → result_of x a (maybe_slot i) ≡ call x a (slot_of j p)
   unfolding step
   slot-asked j p i f = sym (call-answered x a (slot_of j p) e (maybe_slot i) (ap (λ (o : Option ℕ). answered (state_of x a) (maybe_slot o)) f))
 

@@ -87,7 +87,8 @@ impl Writer<'_> {
     }
 
     // ---- the blocks. A loop each: a trait for what is written of a slot would be longer than the three loops, of which the last
-    // keeps a number besides. By slot: `alive` and others are read at it, and an array may be shorter than n.
+    // keeps a number besides. By slot: `alive` and what is written out are both read at it, and either may
+    // be shorter than n.
 
     fn put_scales(&mut self, scales: &[u32], alive: &[u8], n: usize)
         requires { Room (in_order (scale_piece scales.now alive.now) n) self.old }
