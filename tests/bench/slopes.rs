@@ -63,11 +63,14 @@ fn against_dead() {
     table.print();
 }
 
-fn refusal_13() {
-    println!("Refusal 13 against slots: ns a slot.\n");
-    let columns: Vec<Vec<f64>> = SLOTS.iter().map(|&n| Look::new(2, Width::Four, n, 0.0).refusal_13(&KINDS).iter().map(|t| t.min).collect()).collect();
-    let lines = KINDS.iter().enumerate().map(|(i, kind)| (format!("keys {}", kind.name()), columns.iter().map(|column| column[i]).collect()));
-    table("slots", &SLOTS, lines.collect(), ns, |n, t| t / n as f64);
+/// With all slots live, then with every third dead.
+pub fn refusal_13() {
+    for (what, look) in [("", (|n| Look::new(2, Width::Four, n, 0.0)) as fn(usize) -> Look), (", every third one dead", |n| Look::thirds(2, Width::Four, n))] {
+        println!("Refusal 13 against slots{what}: ns a slot.\n");
+        let columns: Vec<Vec<f64>> = SLOTS.iter().map(|&n| look(n).refusal_13(&KINDS).iter().map(|t| t.min).collect()).collect();
+        let lines = KINDS.iter().enumerate().map(|(i, kind)| (format!("keys {}", kind.name()), columns.iter().map(|column| column[i]).collect()));
+        table("slots", &SLOTS, lines.collect(), ns, |n, t| t / n as f64);
+    }
 }
 
 fn add() {
@@ -81,6 +84,5 @@ pub fn print() {
     against_slots();
     against_size();
     against_dead();
-    refusal_13();
     add();
 }

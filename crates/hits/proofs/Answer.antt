@@ -18,7 +18,7 @@ use Rattle.lists.proofs.Laws.{length-tab}
 use Rattle.choose.proofs.Choice.{choose-length}
 use Rattle.score.specs.Order.{order_number}
 use Rattle.padding.specs.Rotatable.{rotatable}
-use Rattle.scan.specs.Scan.{takes_part}
+use Rattle.marks.specs.Live.{live_at}
 use Rattle.lists.proofs.Tests.{and_left, and_right}
 use Rattle.choose_slots.specs.Slots.{listed, listed_within}
 use Rattle.held.proofs.Scan.{range-below}
@@ -55,9 +55,9 @@ some-kept p (x ∷ xs) = go (p x) (some-kept p xs)
     go true e = sym (lt-ltb 0 (suc (length (keep p xs))) (omega arith))
     go false e = e
 
-pub any_marked : (marks : List ℕ) (n : ℕ) → list_any (takes_part marks) (range_with_len 0 n) ≡ any_takes_part marks n
+pub any_marked : (marks : List ℕ) (n : ℕ) → list_any (live_at marks) (range_with_len 0 n) ≡ any_takes_part marks n
 unfolding any_takes_part
-any_marked marks n = ap (list_any (takes_part marks)) (range-below n) ∙ some-kept (takes_part marks) (below n)
+any_marked marks n = ap (list_any (live_at marks)) (range-below n) ∙ some-kept (live_at marks) (below n)
 
 -- ---- the answer by the count
 
@@ -115,8 +115,8 @@ module _ (score : ℕ → Float) (marks : List ℕ) (n k : ℕ) (slots : List �
         go false t = rw (le-leb (length (picks score marks n k)) places (ltb-false places (length (picks score marks n k)) t))
 
     -- as many as are asked for, of those that take part
-    picks-many : length (picks score marks n k) ≡ min (max k 1) (length (keep (takes_part marks) (below n)))
-    picks-many = choose-length (λ i. order_number (score i)) k (keep (takes_part marks) (below n))
+    picks-many : length (picks score marks n k) ≡ min (max k 1) (length (keep (live_at marks) (below n)))
+    picks-many = choose-length (λ i. order_number (score i)) k (keep (live_at marks) (below n))
 
     -- the answer by the count
     abbrev given : Bool → Listed
@@ -134,11 +134,11 @@ module _ (score : ℕ → Float) (marks : List ℕ) (n k : ℕ) (slots : List �
     counted : (b : Bool) → short ≡ b → count_answer (length (cond b [] (picks score marks n k))) (any_takes_part marks n) ≡ given b
     unfolding any_takes_part
     counted true t =
-        ap (count_answer 0) (lt-ltb 0 (length (keep (takes_part marks) (below n))) (omega (arith, picks-many, ltb-true places (length (picks score marks n k)) t)))
+        ap (count_answer 0) (lt-ltb 0 (length (keep (live_at marks) (below n))) (omega (arith, picks-many, ltb-true places (length (picks score marks n k)) t)))
     counted false t = go (length (picks score marks n k)) picks-many ∙ ap Ok (sym (ap length (chosen-slots score marks n k)) ∙ length-map (chosen score marks n k) (λ e. e.0))
       where
-        go : (m : ℕ) → m ≡ min (max k 1) (length (keep (takes_part marks) (below n))) → count_answer m (ltb 0 (length (keep (takes_part marks) (below n)))) ≡ Ok m
-        go zero e = ap (count_answer 0) (le-ltb 0 (length (keep (takes_part marks) (below n))) (omega (arith, e)))
+        go : (m : ℕ) → m ≡ min (max k 1) (length (keep (live_at marks) (below n))) → count_answer m (ltb 0 (length (keep (live_at marks) (below n)))) ≡ Ok m
+        go zero e = ap (count_answer 0) (le-ltb 0 (length (keep (live_at marks) (below n))) (omega (arith, e)))
         go (suc m) e = refl
 
     slots-are : (b : Bool) → map (λ e. e.0) (shown score marks n k (given b)) ≡ cond b [] (picks score marks n k)

@@ -17,7 +17,7 @@ use Rattle.lists.proofs.Laws.{over-more, length-tab, tab-ext}
 use Rattle.lists.proofs.Keep.{keep-none, keep_same}
 use Rattle.lists.proofs.Front.{get_or-rest, each-tab, tab-each}
 use Rattle.score.specs.Order.{order_number}
-use Rattle.scan.specs.Scan.{takes_part}
+use Rattle.marks.specs.Live.{live_at}
 use Rattle.hits.specs.Hits.{scored_slots}
 use Rattle.hits.specs.Steps.{score_entry, order_entry, any_nan, Scores, EntersSlot, EntersSlots}
 
@@ -39,7 +39,7 @@ none_each p (i ∷ is) e = let r = none_first (p i) i (keep p is) e in (r.0, non
 module _ (score : ℕ → Float) (marks : List ℕ) where
   -- the slot takes part, and its score is NaN
   abbrev pub nan_at : ℕ → Bool
-  nan_at i = takes_part marks i && is_nan (score i)
+  nan_at i = live_at marks i && is_nan (score i)
 
   -- ---- one slot
 
@@ -47,14 +47,14 @@ module _ (score : ℕ → Float) (marks : List ℕ) where
     abbrev Enters : Bool → Type 0
     Enters r = EntersSlot score marks i all next orders after r
 
-    pub enters-not : takes_part marks i ≡ false → next ≡ set all i +0 → after ≡ set orders i 0 → Enters true
+    pub enters-not : live_at marks i ≡ false → next ≡ set all i +0 → after ≡ set orders i 0 → Enters true
     unfolding score_entry order_entry
     enters-not m e f = record { sound = rw m; score-in = λ _. rw m e; order-in = λ _. rw m f }
 
-    pub enters-nan : takes_part marks i ≡ true → is_nan (score i) ≡ true → Enters false
+    pub enters-nan : live_at marks i ≡ true → is_nan (score i) ≡ true → Enters false
     enters-nan m t = record { sound = rw (m, t); score-in = never; order-in = never }
 
-    pub enters-score : takes_part marks i ≡ true → is_nan (score i) ≡ false → next ≡ set all i (score i) →
+    pub enters-score : live_at marks i ≡ true → is_nan (score i) ≡ false → next ≡ set all i (score i) →
         (o : ℕ) → o ≡ order_number (score i) → after ≡ set orders i o → Enters true
     unfolding score_entry order_entry
     enters-score m t f o g h = record { sound = rw (m, t); score-in = λ _. rw m f; order-in = λ _. rw (m, ← g) h }
@@ -66,14 +66,14 @@ module _ (score : ℕ → Float) (marks : List ℕ) where
 
   -- ---- the slots below n
 
-  any-kept : (is : List ℕ) → any (λ (e : ℕ × Float). is_nan e.1) (map (λ i. (i, score i)) (keep (takes_part marks) is)) ≡ some_of (keep nan_at is)
+  any-kept : (is : List ℕ) → any (λ (e : ℕ × Float). is_nan e.1) (map (λ i. (i, score i)) (keep (live_at marks) is)) ≡ some_of (keep nan_at is)
   unfolding any
   any-kept [] = refl
-  any-kept (i ∷ is) = go (takes_part marks i) (is_nan (score i)) refl refl (any-kept is)
+  any-kept (i ∷ is) = go (live_at marks i) (is_nan (score i)) refl refl (any-kept is)
     where
-      go : (b c : Bool) → takes_part marks i ≡ b → is_nan (score i) ≡ c →
-          any (λ (e : ℕ × Float). is_nan e.1) (map (λ i. (i, score i)) (keep (takes_part marks) is)) ≡ some_of (keep nan_at is) →
-          any (λ (e : ℕ × Float). is_nan e.1) (map (λ i. (i, score i)) (keep (takes_part marks) (i ∷ is))) ≡ some_of (keep nan_at (i ∷ is))
+      go : (b c : Bool) → live_at marks i ≡ b → is_nan (score i) ≡ c →
+          any (λ (e : ℕ × Float). is_nan e.1) (map (λ i. (i, score i)) (keep (live_at marks) is)) ≡ some_of (keep nan_at is) →
+          any (λ (e : ℕ × Float). is_nan e.1) (map (λ i. (i, score i)) (keep (live_at marks) (i ∷ is))) ≡ some_of (keep nan_at (i ∷ is))
       go true true e f ih = rw (e, f)
       go true false e f ih = rw (e, f) ih
       go false c e f ih = rw e ih
@@ -100,6 +100,10 @@ module _ (score : ℕ → Float) (marks : List ℕ) where
   begun-none all orders = record { none = λ j l. absurd (omega arith); scores = refl; numbers = refl }
 
   module _ {all₀ all : List Float} {orders₀ orders : List ℕ} {i : ℕ} (b : Begun all₀ orders₀ all orders i) where
+    -- the same by another name of i
+    pub begun-at : {j : ℕ} → i ≡ j → Begun all₀ orders₀ all orders j
+    begun-at e = subst (Begun all₀ orders₀ all orders) e b
+
     -- the place of slot i is still as it was
     pub begun-here : get_or all i nan ≡ get_or all₀ i nan
     begun-here =
@@ -140,24 +144,24 @@ module _ (score : ℕ → Float) (marks : List ℕ) (n : ℕ) (all mid next : Li
 
   entry-like : (i : ℕ) → i < n → score_entry read marks i ≡ score_entry score marks i
   unfolding score_entry
-  entry-like i l = go (takes_part marks i) refl
+  entry-like i l = go (live_at marks i) refl
     where
-      go : (b : Bool) → takes_part marks i ≡ b → cond b (read i) +0 ≡ cond b (score i) +0
+      go : (b : Bool) → live_at marks i ≡ b → cond b (read i) +0 ≡ cond b (score i) +0
       go true m = s.there i l m
       go false m = refl
 
   order-like : (i : ℕ) → i < n → order_entry read marks i ≡ order_entry score marks i
   unfolding order_entry
-  order-like i l = go (takes_part marks i) refl
+  order-like i l = go (live_at marks i) refl
     where
-      go : (b : Bool) → takes_part marks i ≡ b → cond b (order_number (read i)) 0 ≡ cond b (order_number (score i)) 0
+      go : (b : Bool) → live_at marks i ≡ b → cond b (order_number (read i)) 0 ≡ cond b (order_number (score i)) 0
       go true m = ap order_number (s.there i l m)
       go false m = refl
 
   nan-like : (i : ℕ) → i < n → nan_at read marks i ≡ nan_at score marks i
-  nan-like i l = go (takes_part marks i) refl
+  nan-like i l = go (live_at marks i) refl
     where
-      go : (b : Bool) → takes_part marks i ≡ b → (b && is_nan (read i)) ≡ (b && is_nan (score i))
+      go : (b : Bool) → live_at marks i ≡ b → (b && is_nan (read i)) ≡ (b && is_nan (score i))
       go true m = ap is_nan (s.there i l m)
       go false m = refl
 

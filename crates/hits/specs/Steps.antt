@@ -14,7 +14,7 @@ use Rattle.index.specs.declared.Index.{Index}
 use Rattle.index.specs.Arrays.{Arrays}
 use Rattle.index.specs.State.{header_of, stage_at}
 use Rattle.lists.specs.Keep.{any, keep}
-use Rattle.scan.specs.Scan.{takes_part}
+use Rattle.marks.specs.Live.{live_at}
 use Rattle.hits.specs.Hits.{Listed, scored_slots, shown, list_answer}
 
 -- the score of each slot under a prepared query, by a table of centroids
@@ -29,10 +29,10 @@ prepared_score x a centroids prepared = score_prepared (header_of x) a.codes a.s
 module _ (score : ℕ → Float) (marks : List ℕ) where
   -- what the working arrays have at a slot: its score, and its order number; 0 for a slot that takes no part
   unfoldable pub score_entry : ℕ → Float
-  score_entry i = cond (takes_part marks i) (score i) +0
+  score_entry i = cond (live_at marks i) (score i) +0
 
   unfoldable pub order_entry : ℕ → ℕ
-  order_entry i = cond (takes_part marks i) (order_number (score i)) 0
+  order_entry i = cond (live_at marks i) (order_number (score i)) 0
 
   -- of the slots below n that take part, one has a NaN for its score
   unfoldable pub any_nan : (n : ℕ) → Bool
@@ -41,12 +41,12 @@ module _ (score : ℕ → Float) (marks : List ℕ) where
   -- The scores of the marked slots below n are in their places; the places from n on are as they were.
   pub record Scores (n : ℕ) (all next : List Float) : Type 0 where
     pub same : length next ≡ length all
-    pub there : (i : ℕ) → i < n → takes_part marks i ≡ true → get_or next i nan ≡ score i
+    pub there : (i : ℕ) → i < n → live_at marks i ≡ true → get_or next i nan ≡ score i
     pub rest : drop n next ≡ drop n all
 
   -- What entering slot i does: `r` says that it does not take part with a NaN, and where that is so its entries are written.
   pub record EntersSlot (i : ℕ) (all next : List Float) (orders after : List ℕ) (r : Bool) : Type 0 where
-    pub sound : r ≡ not (takes_part marks i && is_nan (score i))
+    pub sound : r ≡ not (live_at marks i && is_nan (score i))
     pub score-in : r ≡ true → next ≡ set all i (score_entry i)
     pub order-in : r ≡ true → after ≡ set orders i (order_entry i)
 
@@ -64,7 +64,7 @@ pub record WritesHits (all : List Float) (orders : List ℕ) (k : ℕ) (slots ne
 
 -- one of the slots below n takes part
 unfoldable pub any_takes_part : (marks : List ℕ) → (n : ℕ) → Bool
-any_takes_part marks n = ltb 0 (length (keep (takes_part marks) (below n)))
+any_takes_part marks n = ltb 0 (length (keep (live_at marks) (below n)))
 
 -- the answer where m hits are written, by whether a slot takes part: if one does, there is a hit, so no hit says that places are too few
 abbrev pub count_answer : (m : ℕ) → (any : Bool) → Listed

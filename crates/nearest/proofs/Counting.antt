@@ -1,6 +1,6 @@
 -- How many slots have a distance, or one below it, as loops count them.
 use mathlib.Core.Path.{◌≡◌, refl, sym, ap, ◌∙◌}
-use mathlib.Core.Bool.{Bool, true, false, ◌&&◌, ◌||◌, and-true, and-false}
+use mathlib.Core.Bool.{Bool, true, false, ◌&&◌, and-true, and-false}
 use mathlib.Core.Logic.{inl, inr, ⊎_elim}
 use mathlib.Core.List.{List, [], ◌∷◌}
 use Prim.Native.Nat.{ℕ, zero, suc, ◌+◌, ◌-◌, ◌≤◌, ◌<◌, min}
@@ -11,18 +11,15 @@ use native.Mathlib.Decide.{dec_lt, ℕ_discrete}
 use lib.Dec.{ltb, eqb}
 use lib.ListN.{length, get_or, set, replicate, length-set}
 use lib.Seq.{get_or-set_same, get_or-set_other}
-use mir.Val.{bool_byte}
 use borrow.Author.Tests.{lt-ltb, le-ltb, eq-eqb, ne_eqb, ltb-true, ltb-false}
 use Rattle.lists.specs.Lists.{below}
 use Rattle.lists.specs.Keep.{bit, count}
-use Rattle.lists.proofs.Bits.{as-bit}
 use Rattle.lists.proofs.Laws.{length-tab}
 use Rattle.lists.proofs.Front.{each-tab}
 use Rattle.lists.proofs.Keep.{count-append, count-length, count-implied, count_same, count-share}
-use Rattle.lists.proofs.Writing.{Written, written-more}
 use Rattle.nearest.specs.Distances.{past}
 use Rattle.nearest.specs.declared.Limit.{Limit}
-use Rattle.nearest.specs.Limit.{under, level, Reached, Unreached, Limits, is_marked}
+use Rattle.nearest.specs.Limit.{under, level, Reached, Unreached, Limits}
 
 -- ---- among the numbers below n
 
@@ -51,7 +48,7 @@ module _ (p : ℕ → Bool) where
 -- ---- distances
 
 module _ (xs : List ℕ) where
-  level-up : (d i : ℕ) → level xs d (i + 1) ≡ level xs d i + bit (eqb (get_or xs i 0) d)
+  pub level-up : (d i : ℕ) → level xs d (i + 1) ≡ level xs d i + bit (eqb (get_or xs i 0) d)
   unfolding level
   level-up d i = rw (add-one i) (count-up (λ j. eqb (get_or xs j 0) d) i)
 
@@ -140,23 +137,6 @@ pub all-zero : (n i : ℕ) → get_or (replicate {A = ℕ} n 0) i 0 ≡ 0
 all-zero zero i = refl
 all-zero (suc n) zero = refl
 all-zero (suc n) (suc i) = all-zero n i
-
--- ---- a loop that marks
-
-pub record Marking (xs : List ℕ) (limit ties : ℕ) (old marks : List ℕ) (seen i : ℕ) : Type 0 where
-  pub written : Written (λ j. bit (is_marked xs limit ties j)) (length xs) i old marks
-  pub ties-seen : seen ≡ level xs limit i
-
-pub marking-more : {xs : List ℕ} {limit ties : ℕ} {old marks : List ℕ} {seen i : ℕ} → Marking xs limit ties old marks seen i → length xs ≤ length old →
-    i < length xs → (b : Bool) → b ≡ (ltb (get_or xs i 0) limit || (eqb (get_or xs i 0) limit && ltb seen ties)) →
-    Marking xs limit ties old (set marks i (bool_byte b)) (seen + bool_byte (eqb (get_or xs i 0) limit)) (i + 1)
-unfolding is_marked
-marking-more {xs} {limit} {ties} {old} {marks} {seen} {i} m room l b e =
-    let byte : bool_byte b ≡ bit (is_marked xs limit ties i) = as-bit b ∙ ap bit (rw m.ties-seen at e) in
-    record {
-      written = rw byte (written-more (λ j. bit (is_marked xs limit ties j)) (length xs) old room m.written l);
-      ties-seen = omega (arith, m.ties-seen, level-up xs limit i, as-bit (eqb (get_or xs i 0) limit));
-    }
 
 -- ---- a loop that looks for the limit
 

@@ -1,7 +1,8 @@
 -- Words of the contracts on the way to the marks. Distances are those of the slots 0, 1, .. in use, dead ones past all others.
-use Rattle.std.specs.Prelude.{Bool, ◌&&◌, ◌||◌, List, ◌≡◌, ◌⊎◌, ℕ, ◌+◌, ◌≤◌, ◌<◌, length, get_or, ltb, eqb}
-use Rattle.lists.specs.Keep.{count}
+use Rattle.std.specs.Prelude.{Bool, ◌&&◌, ◌||◌, List, ◌≡◌, ◌⊎◌, ℕ, ◌+◌, ◌^◌, ◌≤◌, ◌<◌, length, get_or, ltb, eqb}
+use Rattle.lists.specs.Keep.{bit, count}
 use Rattle.lists.specs.Lists.{below}
+use Rattle.marks.specs.Live.{bit_of}
 use Rattle.nearest.specs.Distances.{past}
 use Rattle.nearest.specs.declared.Limit.{Limit}
 
@@ -26,6 +27,11 @@ pub record Unreached (xs : List ℕ) (r d ties : ℕ) : Type 0 where
 
 abbrev pub Limits : List ℕ → (r : ℕ) → Limit → Type 0
 Limits xs r l = Reached xs r l.distance l.ties ⊎ Unreached xs r l.distance l.ties
+
+-- a word has a bit for each number below n, which says whether p holds of it, and no other
+pub record Bits (p : ℕ → Bool) (n word : ℕ) : Type 0 where
+  pub small : word < 2 ^ n
+  pub are : (j : ℕ) → j < n → bit_of word j ≡ bit (p j)
 
 -- below the limit, or at it with fewer than `ties` others at it before
 unfoldable pub is_marked : List ℕ → (limit ties : ℕ) → ℕ → Bool

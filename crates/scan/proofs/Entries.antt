@@ -14,7 +14,8 @@ use lib.Ieee.{Float, nan}
 use Rattle.pattern.specs.Binary32.{◌⊕◌}
 use Rattle.lists.specs.Lists.{tab, over}
 use Rattle.lists.proofs.Front.{over-ext}
-use Rattle.scan.specs.Scan.{takes_part, score_after, score_now, scanned}
+use Rattle.marks.specs.Live.{live_at}
+use Rattle.scan.specs.Scan.{score_after, score_now, scanned}
 use Rattle.scan.specs.Groups.{Rescored}
 
 module _ (g : ℕ → Float → Float) where
@@ -66,10 +67,10 @@ module _ (score : ℕ → Float) (marks : List ℕ) (second : Bool) where
   scanned-none n all l = rw (lt-leb n (length all) l)
 
   -- only the scores of marked slots count
-  pub entry-like : (other : ℕ → Float) (i : ℕ) (old : Float) → (takes_part marks i ≡ true → score i ≡ other i) → score_now score marks second i old ≡ score_now other marks second i old
+  pub entry-like : (other : ℕ → Float) (i : ℕ) (old : Float) → (live_at marks i ≡ true → score i ≡ other i) → score_now score marks second i old ≡ score_now other marks second i old
   unfolding score_after
-  entry-like other i old e = go (takes_part marks i) refl
+  entry-like other i old e = go (live_at marks i) refl
     where
-      go : (b : Bool) → takes_part marks i ≡ b → cond b (cond second (old ⊕ score i) (score i)) old ≡ cond b (cond second (old ⊕ other i) (other i)) old
+      go : (b : Bool) → live_at marks i ≡ b → cond b (cond second (old ⊕ score i) (score i)) old ≡ cond b (cond second (old ⊕ other i) (other i)) old
       go true m = rw (e m)
       go false m = refl

@@ -1,5 +1,6 @@
 use native.Mathlib.Omega.{arith}
 use Prim.Native.Nat.{◌+◌, ◌*◌}
+use Rattle.marks.specs.Live.{marks_in}
 use Rattle.scan.proofs.Entries.{changed-join, changed-end}
 use Rattle.scan.proofs.Raws.{group-changed}
 use Rattle.scan.proofs.Tabled.scan_groups.Goals as goal
@@ -8,10 +9,10 @@ pub loop-group-preserved : goal.loop-group-preserved
 loop-group-preserved c =
     let t = c.args.self.now in
     let at = c.loop-group in
-    let first = at.group * 256 in
+    let first = at.group * 64 in
     let many = c.min-many.result in
     changed-end _ 0 (first + many) _ c.args.all.now _
     (changed-join _ 0 first (first + many) c.args.all.now at.all _ (changed-end _ 0 _ first c.args.all.now at.all at.invariant (omega arith) (omega arith))
-    (group-changed t.of.bits t.evens.now t.odds.now t.pairs.now t.of.query.now t.of.size t.of.codes.now t.of.marks.now
+    (group-changed t.of.bits t.evens.now t.odds.now t.pairs.now t.of.query.now t.of.size t.of.codes.now (marks_in t.of.marks.now)
     first many _ t.of.scales.now t.of.second at.all _ c.sum_group.ensures c.enter_group.ensures)
     (omega arith) (omega arith)) (omega arith) (omega arith)

@@ -1,0 +1,6 @@
+use native.Mathlib.Omega.{arith}
+use Rattle.scan.proofs.Entries.{changed-part}
+use Rattle.scan.proofs.Stage.plain_group.Goals as goal
+
+pub returns : goal.returns
+returns c = changed-part _ _ _ _ _ _ _ c.requires.arrays.2 (omega arith) c.loop-k-test.false c.loop-k.invariant
