@@ -1,12 +1,12 @@
 -- Document 02, Req 02: "The live count is the count of ones." Of one word, and of words one after the other.
-use mathlib.Core.Path.{◌≡◌, refl, sym, ap, ◌∙◌}
+use mathlib.Core.Path.{◌≡◌, refl, sym, ap, subst, ◌∙◌}
 use mathlib.Core.Bool.{Bool}
 use mathlib.Core.List.{List, [], ◌∷◌, ◌++◌}
 use Prim.Native.Nat.{ℕ, zero, suc, ◌+◌, ◌*◌, ◌/◌, ◌^◌, ◌≤◌, ◌<◌}
 use native.Mathlib.Nat.{add-zero, add-suc, div-one, div-eq_of_lt}
 use native.Mathlib.Numerals.{add-one}
 use native.Mathlib.Omega.{arith}
-use lib.ListN.{get_or}
+use lib.ListN.{length, get_or}
 use lib.Dec.{eqb, lit<}
 use lib.Pow.{shr-shr}
 use lib.Count.{ones, ones_step, ones-le}
@@ -15,8 +15,15 @@ use Rattle.lists.specs.Keep.{bit, count}
 use Rattle.lists.proofs.Laws.{tab-ext}
 use Rattle.positions.proofs.Slots.{count-last}
 use Rattle.marks.specs.Live.{bit_of, marks_in}
-use Rattle.marks.proofs.Words.{bit-low, mark-at}
-use Rattle.fit.specs.Fits.{live_marks}
+use Rattle.marks.proofs.Words.{length-marks, bit-low, mark-at}
+use Rattle.index.specs.declared.Index.{Index}
+use Rattle.index.specs.Arrays.{Arrays}
+use Rattle.index.specs.State.{header_of}
+use Rattle.fit.specs.Fits.{Clear, live_marks}
+use Rattle.fit.specs.Ones.{LiveIsOnes}
+use Rattle.fit.proofs.Marks.{live-clear}
+use Rattle.fit.proofs.Meaning.{meaning}
+use Rattle.fit.proofs.Rooms.{enough}
 
 abbrev pub is_one : ℕ → Bool
 is_one m = eqb m 1
@@ -67,3 +74,12 @@ live-is-ones ws l (suc n) =
     total-last : (xs : List ℕ) (x : ℕ) → total (xs ++ (x ∷ [])) ≡ total xs + x
     total-last [] x = omega arith
     total-last (y ∷ ys) x = omega (arith, total-last ys x)
+
+-- ---- of a record and arrays that fit
+
+pub live-ones : LiveIsOnes
+live-ones x a ws l e f =
+    let g = (meaning x a).yes f in
+    let room : x.n ≤ length ws * 64 = omega (arith, (enough (header_of x) a x.n g.room).alive, ap length e, length-marks ws) in
+    let clear : Clear (marks_in ws) x.n = subst (λ (ms : List ℕ). Clear ms x.n) e g.marks.clear in
+    g.marks.count ∙ ap (λ (ms : List ℕ). live_marks ms x.n) e ∙ sym (live-clear (marks_in ws) x.n (length ws * 64) clear room) ∙ live-is-ones ws l (length ws)

@@ -68,10 +68,9 @@ unfolding make
 none-set-past = record { calls = none-set; makings = λ h a. none_made (make_refusal h a) h a; readings = none_read }
 
 -- making and reading, by their refusal
-begun-same : (n : ℕ) (x : Index) (a b c : Arrays) → SameArrays x.n b c →
-    ((begun_unless n x a b).answer ≡ (begun_unless n x a c).answer) × SameBegun (begun_unless n x a b) (begun_unless n x a c) (begun_unless n x a b).answer
-begun-same zero x a b c e = (refl, e)
-begun-same (suc n) x a b c e = (refl, refl)
+begun-same : (n : ℕ) (x : Index) (a b c : Arrays) → SameArrays x.n b c → SameBegun (begun_unless n x a b) (begun_unless n x a c)
+begun-same zero x a b c e = record { answer = refl; arrays = e }
+begun-same (suc n) x a b c e = record { answer = refl; arrays = refl }
 
 made-same : (h : Header) (a : Arrays) → SameArrays (record_of (empty h)).n (unmarked a) a
 unfolding record_of

@@ -1,5 +1,6 @@
 -- Document 02, Req 02: "Show that, marks past the slots in use aside, each call gives what it gave with one mark per slot and 64 marks to a word, wherever no bit is set at or
--- above the slots in use. Every accepted call, compaction too, leaves 0 in all bits at or above the slots in use." Laws of proofs/LiveBits.antt.
+-- above the slots in use. Every accepted call, compaction too, leaves 0 in all bits at or above the slots in use." Laws of proofs/LiveBits.antt. `alive` of arrays is the
+-- list of marks, one a slot, that `lent` (Arrays.antt) reads out of the words; a mark of it at or above the slots in use is a bit there, in any lent word.
 use Rattle.std.specs.Prelude.{◌≡◌, true, cond, List, ℕ, take}
 use Rattle.encode.specs.declared.Header.{Header}
 use Rattle.index.specs.declared.Index.{Index}
@@ -38,22 +39,26 @@ pub record SameArrays (n : ℕ) (a b : Arrays) : Type 0 where
   pub codes2 : a.codes2 ≡ b.codes2
   pub scales2 : a.scales2 ≡ b.scales2
 
--- how many slots are in use after making or reading; of a refused one all marks are looked at
-abbrev pub SameBegun : (b c : Begun) → Verdict Index → Type 0
-SameBegun b c (granted x) = SameArrays x.n b.arrays c.arrays
-SameBegun b c (turned_down n) = b.arrays ≡ c.arrays
-
 pub record SameResult (r s : Result) : Type 0 where
   pub answer : r.answer ≡ s.answer
   pub index : r.index ≡ s.index
   pub arrays : SameArrays r.index.n r.arrays s.arrays
 
+-- of making and reading: the index that is granted says how many slots are in use; where it is turned down, no array changes
+abbrev pub same_after : Verdict Index → (a b : Arrays) → Type 0
+same_after (granted x) a b = SameArrays x.n a b
+same_after (turned_down n) a b = a ≡ b
+
+pub record SameBegun (r s : Begun) : Type 0 where
+  pub answer : r.answer ≡ s.answer
+  pub arrays : same_after r.answer r.arrays s.arrays
+
 pub record AsWithOneMark : Type 0 where
   -- every call on an index: answer, record, the other arrays, and the marks of the slots in use
   pub calls : (x : Index) (a : Arrays) (op : Op) → none_from x.n a.alive ≡ true → SameResult (call x a op) (call_by_mark x a op)
   -- making and reading, which turn no bit down
-  pub makings : (h : Header) (a : Arrays) → ((make h a).answer ≡ (make_by_mark h a).answer) × SameBegun (make h a) (make_by_mark h a) (make h a).answer
-  pub readings : (a : Arrays) (file : List ℕ) → ((read_into a file).answer ≡ (read_by_mark a file).answer) × SameBegun (read_into a file) (read_by_mark a file) (read_into a file).answer
+  pub makings : (h : Header) (a : Arrays) → SameBegun (make h a) (make_by_mark h a)
+  pub readings : (a : Arrays) (file : List ℕ) → SameBegun (read_into a file) (read_by_mark a file)
 
 -- ---- "leaves 0 in all bits at or above the slots in use"
 
