@@ -55,10 +55,11 @@ fn with_bit(word: u64, j: usize, live: bool) -> u64
     ensures { BitSet word j (bit live) result }
 {
     let one = 1u64 << j;
-    if (word >> j) % 2 == 1 {
-        return if live { word } else { word - one };
+    match (is_set(word, j), live) {
+        (false, true) => word + one,
+        (true, false) => word - one,
+        _ => word,
     }
-    if live { word + one } else { word }
 }
 
 // Marks a slot as live or as dead; nothing past the end.
