@@ -25,7 +25,7 @@ use Rattle.held.proofs.Scan.{range-below}
 use Rattle.hits.specs.declared.Unlisted.TheVariants.{Nan, Unable}
 use Rattle.hits.specs.Hits.{Listed, chosen, shown, list_answer, ready}
 use Rattle.hits.specs.Steps.{score_entry, order_entry, any_nan, WritesHits, any_takes_part, count_answer, ListsHits}
-use Rattle.hits.proofs.Entering.{no_nan}
+use Rattle.hits.proofs.Entering.{any_nan_scored, no_nan}
 use Rattle.hits.proofs.Choosing.{picks, chosen-slots, chosen-scores, listed-picks, picks-scores}
 
 -- ---- what is ready
@@ -84,12 +84,12 @@ module _ (score : ℕ → Float) (marks : List ℕ) (n k : ℕ) (slots : List �
   pub when-ready : (ok : Bool) → ok ≡ true → (r : Listed) (next : List ℕ) (after : List Float) → ListsHits score marks n k slots next scores after r → Answers ok r next after
   when-ready ok e r next after h = subst (λ (b : Bool). Answers b r next after) (sym e) (h.answers, (h.slots-in, h.scores-in))
 
-  pub some_nan : any_nan score marks n ≡ true → ListsHits score marks n k slots slots scores scores (Err Nan)
-  unfolding list_answer any_nan over
-  some_nan e = record { answers = rw e refl; slots-in = refl; scores-in = refl }
+  pub some_nan : any_nan score marks 0 n ≡ true → ListsHits score marks n k slots slots scores scores (Err Nan)
+  unfolding list_answer over
+  some_nan e = record { answers = rw (any_nan_scored score marks n, e) refl; slots-in = refl; scores-in = refl }
 
   -- every score is a binary32 and no NaN
-  module _ (float : (i : ℕ) → T (fits binary32 (score i))) (few : n ≤ 65536) (none : any_nan score marks n ≡ false) where
+  module _ (float : (i : ℕ) → T (fits binary32 (score i))) (few : n ≤ 65536) (none : any_nan score marks 0 n ≡ false) where
     abbrev numbers : List ℕ
     numbers = tab (order_entry score marks) n
 
@@ -124,8 +124,8 @@ module _ (score : ℕ → Float) (marks : List ℕ) (n k : ℕ) (slots : List �
     given false = Ok (length (chosen score marks n k))
 
     answer-is : list_answer score marks n true k places ≡ given short
-    unfolding list_answer any_nan
-    answer-is = rw (none, sym (length-map (chosen score marks n k) (λ e. e.0)), chosen-slots score marks n k) (go short)
+    unfolding list_answer
+    answer-is = rw (any_nan_scored score marks n, none, sym (length-map (chosen score marks n k) (λ e. e.0)), chosen-slots score marks n k) (go short)
       where
         go : (b : Bool) → cond b (Err Unable) (Ok (length (picks score marks n k))) ≡ given b
         go true = refl

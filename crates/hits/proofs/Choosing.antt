@@ -22,8 +22,7 @@ use Rattle.choose_slots.specs.Slots as Slots
 use Rattle.choose_slots.specs.Slots.{listed}
 use Rattle.marks.specs.Live.{live_at}
 use Rattle.hits.specs.Hits.{scored_slots, chosen}
-use Rattle.hits.specs.Steps.{score_entry, order_entry}
-use Rattle.hits.proofs.Entering.{nan_at}
+use Rattle.hits.specs.Steps.{score_entry, order_entry, nan_at}
 
 -- ---- lists
 

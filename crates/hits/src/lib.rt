@@ -3,19 +3,20 @@
 // Scores and order numbers of all slots stand in two working arrays, and no place is written before every score is known to be no NaN.
 #![tactic(auto)]
 
-ghost use Rattle.std.specs.Prelude.{◌≡◌, true, map, List, ℕ, ◌≤◌, ◌<◌, min, length, get_or};
+ghost use Rattle.std.specs.Prelude.{◌≡◌, true, map, List, ℕ, ◌≤◌, ◌<◌, ◌+◌, min, length, get_or};
 ghost use Rattle.std.specs.Float.{nan};
 ghost use Rattle.std.specs.List.{list_any, range_with_len};
 ghost use Rattle.pattern.specs.Binary32.{+0};
 ghost use Rattle.lists.specs.Lists.{over};
 ghost use Rattle.lists.specs.Keep.{Each};
 ghost use Rattle.marks.specs.Live.{marks_in, live_at};
+ghost use Rattle.marks.specs.Word.{Lives};
 ghost use Rattle.unit.specs.Brought.{query_of};
 ghost use Rattle.padding.specs.Rotatable.{rotatable};
 ghost use Rattle.refusal.specs.declared.Refusal.TheVariants.{ScoreNan};
 ghost use Rattle.index.specs.Lent.{contents};
 ghost use Rattle.hits.specs.Hits.{slot_score_in, list_answer, shown, ready};
-ghost use Rattle.hits.specs.Steps.{prepared_score, Scores, EntersSlot, EntersSlots, WritesHits, any_takes_part, count_answer, ListsHits};
+ghost use Rattle.hits.specs.Steps.{prepared_score, Scores, EntersFrom, EntersSlot, EntersSlots, WritesHits, any_takes_part, count_answer, ListsHits};
 
 use index::{Index, Lent};
 use refusal::Refusal;
@@ -112,21 +113,35 @@ fn enter_slot(marked: bool, slot: usize, all: &mut [f32], orders: &mut [u32]) ->
     true
 }
 
+// Enters the slots of one word: `many` slots from `first` on, of which `live` has the marks. False, at the first NaN, where one that takes part has a NaN for its
+// score.
+// By a for, here and in `enter_orders`: in the iterator's `all` the closure would change the two arrays, and nothing would say what they are afterwards; a for has
+// an invariant that says it.
+fn enter_group(live: u64, first: usize, many: usize, all: &mut [f32], orders: &mut [u32]) -> bool
+    requires { (many ≤ 64) × (first + many ≤ length all.old) × (first + many ≤ length orders.old) }
+    ensures { (marks : List ℕ) → Lives marks first live → EntersFrom (λ i. get_or all.old i nan) marks first many
+        all.old all.new orders.old orders.new result }
+{
+    for k in 0..many {
+        if !enter_slot(marks::is_set(live, k), first + k, all, orders) {
+            return false;
+        }
+    }
+    true
+}
+
 // Enters the slots below n, whose scores are there. False, at the first NaN, where one of them that takes part has a NaN for its score.
-// By a for: in the iterator's `all` the closure would change the two arrays, and nothing would say what they are afterwards; a for has an invariant that says it.
 fn enter_orders(marks: &[u64], n: usize, all: &mut [f32], orders: &mut [u32]) -> bool
     requires { (n ≤ length all.old) × (n ≤ length orders.old) }
     ensures { EntersSlots (λ i. get_or all.old i nan) (marks_in marks.now) n
         all.old all.new orders.old orders.new result }
 {
     for group in 0..n.div_ceil(64) {
-        let word = marks::word_at(marks, group);
+        let live = marks::word_at(marks, group);
         let first = group * 64;
         let many = (n - first).min(64);
-        for k in 0..many {
-            if !enter_slot(marks::is_set(word, k), first + k, all, orders) {
-                return false;
-            }
+        if !enter_group(live, first, many, all, orders) {
+            return false;
         }
     }
     true
