@@ -1,11 +1,12 @@
 -- The array of scores, changed entry by entry and group by group.
-use mathlib.Core.Path.{◌≡◌, refl, ap, subst, ◌∙◌}
+use mathlib.Core.Path.{◌≡◌, refl, sym, ap, subst, ◌∙◌}
 use mathlib.Core.Bool.{Bool, true, false, cond}
 use mathlib.Core.List.{List, ◌++◌}
 use Prim.Native.Nat.{ℕ, ◌+◌, ◌-◌, ◌≤◌, ◌<◌}
 use native.Mathlib.Decide.{dec_lt}
 use native.Mathlib.Omega.{arith}
 use borrow.Author.Tests.{le-leb, lt-leb}
+use lib.Dec.{ltb}
 use lib.ListN.{length, take, drop, get_or, length-drop}
 use lib.Seq.{length-take-le, get_or-take, get_or-drop}
 use Rattle.std.proofs.lemmas.Grind.{common_steps}
@@ -15,6 +16,8 @@ use Rattle.pattern.specs.Binary32.{◌⊕◌}
 use Rattle.lists.specs.Lists.{tab, over}
 use Rattle.lists.proofs.Front.{over-ext}
 use Rattle.marks.specs.Live.{live_at}
+use Rattle.marks.specs.Word.{Lives, live_in}
+use Rattle.marks.proofs.Words.{bit-zero}
 use Rattle.scan.specs.Scan.{score_after, score_now, scanned}
 use Rattle.scan.specs.Groups.{Rescored}
 
@@ -58,6 +61,18 @@ module _ (g : ℕ → Float → Float) where
 -- ---- the entries of slots
 
 module _ (score : ℕ → Float) (marks : List ℕ) (second : Bool) where
+  -- a word without a mark changes none of its slots
+  pub none-changed : (first many word : ℕ) (all : List Float) → many ≤ 64 → Lives marks first word → word ≡ 0 →
+      Rescored (score_now score marks second) first (first + many) all all
+  unfolding score_after
+  none-changed first many word all few l e =
+      record { same = refl; inside = λ i p q. sym (ap (λ (b : Bool). score_after b second (score i) (get_or all i nan)) (dead i p q)); outside = λ i n. refl }
+    where
+      dead : (i : ℕ) → first ≤ i → i < first + many → live_at marks i ≡ false
+      dead i p q =
+          let at : first + (i - first) ≡ i = omega arith in
+          ap (live_at marks) (sym at) ∙ sym (l.each (i - first) (omega arith)) ∙ ap (λ (w : ℕ). live_in w (i - first)) e ∙ ap (ltb 0) (bit-zero (i - first))
+
   pub scanned-all : (n : ℕ) (all next : List Float) → n ≤ length all → Rescored (score_now score marks second) 0 n all next → next ≡ scanned score marks second n all
   unfolding scanned
   scanned-all n all next l c = rw (le-leb n (length all) l) (changed-all (score_now score marks second) n all next l c)

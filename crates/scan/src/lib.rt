@@ -374,6 +374,21 @@ impl<'a> Tabled<'a> {
         }
     }
 
+    // The entries of one group. Most groups of a cascade have no candidate.
+    fn scan_group(&self, live: u64, first: usize, many: usize, sums: &mut [f32], all: &mut [f32])
+        requires arrays { (many * 8 ≤ length sums.old) × (first + many ≤ self.now.of.n) × (many ≤ 64) × (first + many ≤ length all.old) }
+        requires lives { Lives (marks_in self.now.of.marks.now) first live }
+        ensures { Rescored (score_now (score_by self.now.of.bits self.now.evens.now self.now.odds.now self.now.pairs.now
+            self.now.of.query.now self.now.of.size self.now.of.codes.now self.now.of.scales.now)
+            (marks_in self.now.of.marks.now) self.now.of.second) first (first + many) all.old all.new }
+    {
+        if live == 0 {
+            return;
+        }
+        self.sum_group(live, first, many, sums);
+        self.enter_group(sums, live, first, many, all);
+    }
+
     // All slots, in groups. That `all` has their places is a clause here and below: `all` is written, and a struct of it with a ghost field would be longer.
     fn scan_groups(&self, sums: &mut [f32], all: &mut [f32])
         requires { (self.now.of.n ≤ length all.old) × (512 ≤ length sums.old) }
@@ -385,8 +400,7 @@ impl<'a> Tabled<'a> {
             let live = marks::word_at(self.of.marks, group);
             let first = group * 64;
             let many = (self.of.n - first).min(64);
-            self.sum_group(live, first, many, sums);
-            self.enter_group(sums, live, first, many, all);
+            self.scan_group(live, first, many, sums, all);
         }
     }
 }
@@ -428,6 +442,9 @@ impl<'a> Stage<'a> {
         ensures { Rescored (score_now (stage_of self.now.bits self.now.centroids.now self.now.query.now self.now.size
             self.now.codes.now self.now.scales.now) (marks_in self.now.marks.now) self.now.second) first (first + many) all.old all.new }
     {
+        if live == 0 {
+            return;
+        }
         for (k, score) in all[first..first + many].iter_mut().enumerate() {
             *score = self.plain_entry(marks::is_set(live, k), first + k, *score);
         }
