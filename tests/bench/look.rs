@@ -118,10 +118,6 @@ impl Look {
         })
     }
 
-    pub fn spin(&self, times: usize) {
-        for _ in 0..times { self.cascade_ours(10, 200); }
-    }
-
     fn cascade_ours(&self, k: usize, r: usize) {
         let found = self.ours.borrow().search_cascade(&self.query, k, r, &mut self.slots.borrow_mut(), &mut self.scores.borrow_mut());
         same::check(&self.what, found.is_ok(), || format!("cascade was refused by {found:?}"));

@@ -101,10 +101,3 @@ pub fn print() {
     cascade_against_dead();
     add();
 }
-
-pub fn spin() {
-    let dim: usize = std::env::var("DIM").unwrap().parse().unwrap();
-    let dead: f64 = std::env::var("DEAD").unwrap().parse().unwrap();
-    let look = Look::new(dim, Width::Four, 65_536, dead);
-    look.spin(3000);
-}
