@@ -161,7 +161,7 @@ fn put_encoding(
 }
 
 // The encoding by the tables of the width. There is one boundary fewer than there are centroids. `place` has the like for the record of an index.
-// One function for both would stand in `encode`, which takes any table, so that one place chooses it.
+// One function for both would stand in `encode`, which takes any table and chooses none (docs/DECISIONS.md, "One place chooses the table").
 fn encode_by_width(
     header: Header,
     fresh: bool,
