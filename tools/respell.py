@@ -96,7 +96,7 @@ def main(root):
                 f.write(new)
     pages = [os.path.join(root, "README.md")]
     for folder, _, names in os.walk(os.path.join(root, "docs")):
-        pages += [os.path.join(folder, n) for n in sorted(names) if n.endswith(".md") and n not in ("PORT.md", "02-unfinished.md")]
+        pages += [os.path.join(folder, n) for n in sorted(names) if n.endswith(".md") and n != "PORT.md"]
     for path in pages:
         with open(path, encoding="utf-8") as f:
             text = f.read()

@@ -5,6 +5,8 @@ use crate::sys::{Arrays, Head};
 /// No index has more slots, and no vector more entries (document 01).
 pub const MOST_SLOTS: usize = 65_536;
 const MOST_ENTRIES: usize = 4096;
+/// So many live marks are in a word.
+const MARKS: usize = 64;
 
 /// What a slot takes.
 pub struct SlotSize {
@@ -33,7 +35,7 @@ pub fn hold(arrays: &mut Arrays, slots: usize, size: &SlotSize) -> Result<(), Er
     lengthen(&mut arrays.keys, slots)?;
     lengthen(&mut arrays.keyed, slots)?;
     lengthen(&mut arrays.held, slots)?;
-    lengthen(&mut arrays.alive, slots)?;
+    lengthen(&mut arrays.alive, slots.div_ceil(MARKS))?;
     if size.residual {
         lengthen(&mut arrays.codes2, bytes)?;
         lengthen(&mut arrays.scales2, slots)?;

@@ -3,7 +3,7 @@
 //! are a slice's, that a slice which is written overlaps no other, and that a bool is 0 or 1; references give all three.
 
 /// The set of signatures that is declared here. The library states its own (`abi`): a stale declaration of twenty arguments would still link.
-pub const ABI: u64 = 1;
+pub const ABI: u64 = 2;
 
 #[derive(Clone, Default, PartialEq)]
 pub struct Arrays {
@@ -12,7 +12,8 @@ pub struct Arrays {
     pub keys: Vec<u64>,
     pub keyed: Vec<bool>,
     pub held: Vec<u32>,
-    pub alive: Vec<u8>,
+    /// live marks, 64 to a word: slot s at bit s modulo 64 of word s divided by 64
+    pub alive: Vec<u64>,
     pub codes2: Vec<u8>,
     pub scales2: Vec<u32>,
 }
@@ -36,7 +37,7 @@ macro_rules! declare {
             $(fn $name(
                 $(_: $before,)*
                 _: *const u8, _: usize, _: *const u32, _: usize, _: *const u64, _: usize, _: *const bool, _: usize,
-                _: *const u32, _: usize, _: *const u8, _: usize, _: *const u8, _: usize, _: *const u32, _: usize,
+                _: *const u32, _: usize, _: *const u64, _: usize, _: *const u8, _: usize, _: *const u32, _: usize,
                 $(_: $after,)*
             ) -> u8;)*
         }

@@ -46,7 +46,8 @@ pub fn add(dim: usize, width: Width, n: usize, kind: Keys) -> Three {
     let n = n.min(MOST_SLOTS - BATCH);
     let mut ours = data::filled(dim, width, n, n + BATCH);
     data::key(&mut ours.arrays, kind, n);
-    let record = ours.record;
+    // What is put back after a batch: no bit may be set at or above the slots in use.
+    let (record, alive) = (ours.record, ours.arrays.alive.clone());
     let mut random = Random::new(8);
     let vectors: Vec<Vec<f32>> = (0..BATCH).map(|_| data::vector(&mut random, dim)).collect();
     let (mut scalar, mut published) = ((SCALAR.index_of)(&ours), (PUBLISHED.index_of)(&ours));
@@ -59,10 +60,12 @@ pub fn add(dim: usize, width: Width, n: usize, kind: Keys) -> Three {
         rust.cut(n);
     }
     ours.record = record;
+    ours.arrays.alive.copy_from_slice(&alive);
     let times = race(&mut [
         &mut || {
             let seconds = add_ours(&mut ours, kind, &vectors);
             ours.record = record;
+            ours.arrays.alive.copy_from_slice(&alive);
             seconds
         },
         &mut || {

@@ -18,7 +18,7 @@ pub fn counted(call: &mut dyn FnMut()) {
 }
 
 /// The cases: name, width, keys.
-pub const CASES: [(&str, Width, Keys); 17] = [
+pub const CASES: [(&str, Width, Keys); 20] = [
     ("search-4", Width::Four, Keys::None),
     ("search-5", Width::Five, Keys::None),
     ("search-6", Width::Six, Keys::None),
@@ -36,6 +36,9 @@ pub const CASES: [(&str, Width, Keys); 17] = [
     ("fwht", Width::Four, Keys::None),
     ("13-rising", Width::Four, Keys::Rising),
     ("13-random", Width::Four, Keys::Random),
+    ("13-one", Width::Four, Keys::One),
+    ("13-rising-dead", Width::Four, Keys::Rising),
+    ("13-random-dead", Width::Four, Keys::Random),
 ];
 
 /// Makes the call once: ours, or the Rust's scalar path, whose answers are not dropped within the count. False where there is no such case, or where the Rust has no such call.
@@ -46,6 +49,9 @@ pub fn call(name: &str, ours: bool) -> bool {
     let mut index = data::filled(DIM, width, SLOTS, SLOTS + 1);
     if name == "compact" {
         data::kill(&mut index, 0.25);
+    }
+    if name.ends_with("-dead") {
+        data::kill_thirds(&mut index);
     }
     data::key(&mut index.arrays, kind, SLOTS);
     index.record[CASCADE] = (name == "search_cascade") as u64;

@@ -105,6 +105,26 @@ pub fn vector(random: &mut Random, dim: usize) -> Vec<f32> {
     (0..dim).map(|_| random.unit()).collect()
 }
 
+/// So many live marks are in a word.
+pub const MARKS: usize = 64;
+
+/// "slot s at bit s modulo 64 of word s divided by 64" (document 02, Req 02)
+pub fn mark(alive: &[u64], slot: usize) -> bool {
+    alive[slot / MARKS] >> (slot % MARKS) & 1 == 1
+}
+
+pub fn set_mark(alive: &mut [u64], slot: usize, live: bool) {
+    let bit = 1 << (slot % MARKS);
+    alive[slot / MARKS] = if live { alive[slot / MARKS] | bit } else { alive[slot / MARKS] & !bit };
+}
+
+/// So many words, in which the first `n` slots are marked as live and no other bit is set.
+pub fn first_marks(n: usize, words: usize) -> Vec<u64> {
+    let mut alive = vec![0; words];
+    (0..n).for_each(|slot| set_mark(&mut alive, slot, true));
+    alive
+}
+
 /// An index of `n` live slots without keys, in arrays with places for `room`.
 pub fn filled(dim: usize, width: Width, n: usize, room: usize) -> Raw {
     let mut random = Random::new((dim * 31 + n) as u64 * 8 + width.name().len() as u64 + width.bits() as u64);
@@ -117,7 +137,7 @@ pub fn filled(dim: usize, width: Width, n: usize, room: usize) -> Raw {
         keys: vec![0; room],
         keyed: vec![false; room],
         held: vec![0; room],
-        alive: (0..room).map(|slot| (slot < n) as u8).collect(),
+        alive: first_marks(n, room.div_ceil(MARKS)),
         codes2: bytes(&mut random, second * block),
         scales2: scales(&mut random, dim * 100, second),
     };
@@ -127,20 +147,21 @@ pub fn filled(dim: usize, width: Width, n: usize, room: usize) -> Raw {
 
 /// Keys the live slots below `n` in one of the ways.
 pub fn key(arrays: &mut Arrays, kind: Keys, n: usize) {
-    let mut order: Vec<u32> = (0..n as u32).collect();
+    let live = (0..n).filter(|&slot| mark(&arrays.alive, slot)).count();
+    let mut order: Vec<u32> = (0..live as u32).collect();
     if kind == Keys::Shuffled {
         let mut random = Random::new(99);
-        (1..n).rev().for_each(|i| order.swap(i, random.below(i as u64 + 1) as usize));
+        (1..live).rev().for_each(|i| order.swap(i, random.below(i as u64 + 1) as usize));
     }
     let mut next: HashMap<u64, u32> = HashMap::new();
     for slot in 0..n {
-        let on = kind != Keys::None && arrays.alive[slot] == 1;
+        let on = kind != Keys::None && mark(&arrays.alive, slot);
         arrays.keys[slot] = if on { kind.of(slot) } else { 0 };
         arrays.keyed[slot] = on;
         arrays.held[slot] = 0;
         if on {
             let position = next.entry(arrays.keys[slot]).or_insert(0);
-            arrays.held[slot] = if kind == Keys::Shuffled { order[slot] } else { *position };
+            arrays.held[slot] = if kind == Keys::Shuffled { order[*position as usize] } else { *position };
             *position += 1;
         }
     }
@@ -151,15 +172,22 @@ pub fn kill(ours: &mut Raw, share: f64) {
     let mut random = Random::new(77);
     let n = ours.record[N] as usize;
     for slot in 0..n {
-        ours.arrays.alive[slot] = (random.below(1 << 20) as f64 >= share * (1u64 << 20) as f64) as u8;
+        set_mark(&mut ours.arrays.alive, slot, random.below(1 << 20) as f64 >= share * (1u64 << 20) as f64);
     }
-    ours.record[LIVE] = ours.arrays.alive[..n].iter().map(|&m| m as u64).sum();
+    ours.record[LIVE] = (0..n).filter(|&slot| mark(&ours.arrays.alive, slot)).count() as u64;
+}
+
+/// Makes every third slot dead.
+pub fn kill_thirds(ours: &mut Raw) {
+    let n = ours.record[N] as usize;
+    (0..n).for_each(|slot| set_mark(&mut ours.arrays.alive, slot, slot % 3 != 2));
+    ours.record[LIVE] = (n - n / 3) as u64;
 }
 
 /// Leaves `count` live slots, spread evenly.
 pub fn spare(ours: &mut Raw, count: usize) {
     let n = ours.record[N] as usize;
-    ours.arrays.alive[..n].fill(0);
-    (0..count).for_each(|i| ours.arrays.alive[i * n / count] = 1);
+    ours.arrays.alive.fill(0);
+    (0..count).for_each(|i| set_mark(&mut ours.arrays.alive, i * n / count, true));
     ours.record[LIVE] = count as u64;
 }

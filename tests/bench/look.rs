@@ -71,6 +71,13 @@ impl Look {
         Look::of(ours, format!("{live} live of {n} slots of {dim} entries, width {}", width.name()))
     }
 
+    /// An index of `n` slots without keys, of which every third is dead.
+    pub fn thirds(dim: usize, width: Width, n: usize) -> Self {
+        let mut ours = data::filled(dim, width, n, n);
+        data::kill_thirds(&mut ours);
+        Look::of(ours, format!("{n} slots of {dim} entries, every third dead, width {}", width.name()))
+    }
+
     /// Under one kind of keys, the Rust's forms too.
     pub fn keyed(dim: usize, width: Width, n: usize, kind: Keys) -> Self {
         let mut ours = data::filled(dim, width, n, n);

@@ -22,7 +22,7 @@ mod table;
 
 use std::process::ExitCode;
 
-const GROUPS: [(&str, fn(), &str); 14] = [
+const GROUPS: [(&str, fn(), &str); 15] = [
     ("goals", goals::print, "the goals"),
     ("search-256", groups::search_256, "searches over slots of 256 entries: every number of slots, width, k and kind of keys"),
     ("search-1024", groups::search_1024, "the same of 1,024 entries"),
@@ -35,6 +35,7 @@ const GROUPS: [(&str, fn(), &str); 14] = [
     ("files", groups::files, "writing and reading"),
     ("fwht", groups::fwht, "the transform"),
     ("parts", parts::print, "refusal 13 and the choice of slots"),
+    ("13", slopes::refusal_13, "refusal 13 against slots, all of them live and every third one dead"),
     ("slopes", slopes::print, "growth with slots, size and dead slots"),
     ("stack", stack::print, "stack of each call"),
 ];

@@ -63,11 +63,28 @@ fn against_dead() {
     table.print();
 }
 
-fn refusal_13() {
-    println!("Refusal 13 against slots: ns a slot.\n");
-    let columns: Vec<Vec<f64>> = SLOTS.iter().map(|&n| Look::new(2, Width::Four, n, 0.0).refusal_13(&KINDS).iter().map(|t| t.min).collect()).collect();
-    let lines = KINDS.iter().enumerate().map(|(i, kind)| (format!("keys {}", kind.name()), columns.iter().map(|column| column[i]).collect()));
-    table("slots", &SLOTS, lines.collect(), ns, |n, t| t / n as f64);
+fn cascade_against_dead() {
+    println!("Cascade of 65,536 slots, 4 bits, against the share of dead ones, k = 10, r = 200: ms.\n");
+    const DEAD: [f64; 6] = [0.0, 0.25, 0.5, 0.75, 0.9, 0.97];
+    let mut heads = vec!["entries".to_string()];
+    heads.extend(DEAD.iter().map(|&share| format!("{}%", share * 100.0)));
+    let mut table = Table::new(&heads.iter().map(String::as_str).collect::<Vec<_>>());
+    for dim in [8, 64, 1024] {
+        let mut cells = vec![count(dim)];
+        cells.extend(DEAD.iter().map(|&share| ms(Look::new(dim, Width::Four, 65_536, share).cascade(10, 200).0.ours.min)));
+        table.row(cells);
+    }
+    table.print();
+}
+
+/// With all slots live, then with every third dead.
+pub fn refusal_13() {
+    for (what, look) in [("", (|n| Look::new(2, Width::Four, n, 0.0)) as fn(usize) -> Look), (", every third one dead", |n| Look::thirds(2, Width::Four, n))] {
+        println!("Refusal 13 against slots{what}: ns a slot.\n");
+        let columns: Vec<Vec<f64>> = SLOTS.iter().map(|&n| look(n).refusal_13(&KINDS).iter().map(|t| t.min).collect()).collect();
+        let lines = KINDS.iter().enumerate().map(|(i, kind)| (format!("keys {}", kind.name()), columns.iter().map(|column| column[i]).collect()));
+        table("slots", &SLOTS, lines.collect(), ns, |n, t| t / n as f64);
+    }
 }
 
 fn add() {
@@ -81,6 +98,6 @@ pub fn print() {
     against_slots();
     against_size();
     against_dead();
-    refusal_13();
+    cascade_against_dead();
     add();
 }

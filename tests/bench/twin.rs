@@ -1,5 +1,6 @@
 // One build of the Rust core, here named vecq: its index from a record and arrays, and its calls. Included once for each build.
 use super::Rust;
+use crate::data::{mark, set_mark};
 use crate::sys::{Raw, BITS, CASCADE, DIM, LIVE, N, RESIDUAL, SEED, WORKING_DIM};
 use std::collections::HashMap;
 use vecq::store::VecqIndex;
@@ -28,7 +29,7 @@ pub fn index_of(ours: &Raw) -> Box<dyn Rust> {
         index.codes2 = arrays.codes2[..used].to_vec();
         index.scales2 = floats(&arrays.scales2[..n]);
     }
-    index.alive = arrays.alive[..n].iter().map(|&mark| mark == 1).collect();
+    index.alive = (0..n).map(|slot| mark(&arrays.alive, slot)).collect();
     index.keys = (0..n).map(|slot| arrays.keyed[slot].then_some(arrays.keys[slot])).collect();
     hold(&mut index, &arrays.held);
     if record[CASCADE] == 1 {
@@ -74,6 +75,13 @@ fn forget(index: &mut VecqIndex, key: u64) {
         index.key_to_slots.remove(&key);
         index.key_to_slot.insert(key, slot);
     }
+}
+
+/// The words of these marks.
+fn marks(alive: &[bool], words: usize) -> Vec<u64> {
+    let mut marks = vec![0; words];
+    alive.iter().enumerate().for_each(|(slot, &live)| set_mark(&mut marks, slot, live));
+    marks
 }
 
 /// The held position of each keyed slot.
@@ -158,7 +166,8 @@ impl Rust for VecqIndex {
             ("scales", patterns(&self.scales) == arrays.scales[..n]),
             ("codes2", !self.residual || self.codes2[..] == arrays.codes2[..used]),
             ("scales2", !self.residual || patterns(&self.scales2) == arrays.scales2[..n]),
-            ("alive", (0..n).all(|slot| self.alive[slot] as u8 == arrays.alive[slot])),
+            // No bit is set at or above the slots in use, in any lent word (document 02, Req 02).
+            ("alive", marks(&self.alive, arrays.alive.len()) == arrays.alive),
             ("keys", (0..n).all(|slot| self.keys[slot] == arrays.keyed[slot].then_some(arrays.keys[slot]))),
             ("held", held_positions(self) == arrays.held[..n]),
         ];

@@ -81,7 +81,7 @@ def check_added(checks, case):
     bits = [f"bits {case.kind[1]}"] if "--bits" in case.kind else []
     adds = [(f"add {v}" if key == "-" else f"add_multi {int(key):x} {v}")
             for key, v in zip(case.keys, (tools.vector([tools.binary32(x) for x in row]) for row in case.rows))]
-    written = tools.exercise(["lend 100000 1000 1000 1000 1000 1000 100000 1000", making, *bits, *adds, "write 10000"])[-1]
+    written = tools.exercise(["lend 100000 1000 1000 1000 1000 40 100000 1000", making, *bits, *adds, "write 10000"])[-1]
     checks.equal(f"{case.name}: the file", case.file.hex(), written.removeprefix("bytes "))
     checks.equal(f"{case.name}: what add says", case.ran.out, f"added\t{len(case.rows)}\nlive\t{len(case.rows)}\nbytes\t{len(case.file)}\n")
     # The same rows as .fvecs with a .keys file beside it.

@@ -14,7 +14,7 @@ const HISTORIES: usize = 25;
 const CALLS: usize = 100;
 
 /// The program is lent arrays of one length for a script, the crate lengthens its own: so no index here has more slots, and no slot more bytes than 512.
-const LEND: &str = "lend 8000 40 40 40 40 40 8000 40";
+const LEND: &str = "lend 8000 40 40 40 40 1 8000 40";
 const MOST_SLOTS: usize = 60;
 const DIMS: [usize; 12] = [1, 2, 3, 4, 5, 7, 8, 9, 16, 17, 33, 100];
 /// Few, so that they clash.

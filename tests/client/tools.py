@@ -72,7 +72,7 @@ def listing(file):
 
 def reading(file):
     """The lines that have `exercise` read a file."""
-    return ["lend 100000 1000 1000 1000 1000 1000 100000 1000", f"read {file.hex()}"]
+    return ["lend 100000 1000 1000 1000 1000 40 100000 1000", f"read {file.hex()}"]
 
 
 def vector(patterns):

@@ -107,7 +107,7 @@ pub fn past_the_most() {
     }
 }
 
-/// Cuts one of the arrays to `slots` places, or to `bytes` of codes.
+/// Cuts one of the arrays to `slots` places, or to `bytes` of codes, or to as many words of live marks as `slots` fill.
 fn shorten(arrays: &mut Arrays, which: usize, slots: usize, bytes: usize) {
     match which {
         0 => arrays.codes.truncate(bytes),
@@ -115,7 +115,7 @@ fn shorten(arrays: &mut Arrays, which: usize, slots: usize, bytes: usize) {
         2 => arrays.keys.truncate(slots),
         3 => arrays.keyed.truncate(slots),
         4 => arrays.held.truncate(slots),
-        5 => arrays.alive.truncate(slots),
+        5 => arrays.alive.truncate(slots / data::MARKS),
         6 => arrays.codes2.truncate(bytes),
         _ => arrays.scales2.truncate(slots),
     }
@@ -124,7 +124,8 @@ fn shorten(arrays: &mut Arrays, which: usize, slots: usize, bytes: usize) {
 /// Room is that of the shortest array, residual ones only if residual: full is 8, too short 13. Making is 13 where an array holds no slot at the width
 /// that an index is made with, 5, or 4 if residual.
 pub fn the_shortest() {
-    const SLOTS: usize = 1000;
+    // Sixteen words of live marks are full.
+    const SLOTS: usize = 1024;
     let vector = data::vector(&mut Random::new(25), DIM);
     for width in WIDTHS {
         let block = data::block_size(DIM, width.bits());

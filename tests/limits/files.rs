@@ -15,6 +15,8 @@ fn elsewhere(width: Width, room: usize) -> Raw {
     let mut ours = data::filled(DIM, width, 3, room);
     ours.arrays.keyed[0] = true;
     ours.arrays.held.fill(9);
+    // Bits at or above the slots in use too: reading clears them.
+    ours.arrays.alive.fill(u64::MAX);
     ours
 }
 

@@ -1,8 +1,9 @@
 //! The static library at the limits of document 01, with the Rust as judge where the document has it compared, and a model of document 02's sentences where the
-//! Rust stops at games with one trait. Any difference makes the status 1.
+//! Rust stops at games with one trait or has no such marks. Any difference makes the status 1.
 mod adds;
 mod files;
 mod kept;
+mod marks;
 mod results;
 mod sizes;
 mod traits;
@@ -38,7 +39,7 @@ use std::time::Instant;
 pub const MOST_SLOTS: usize = 65_536;
 pub const MOST_DIM: usize = 4096;
 
-const PARTS: [(&str, fn()); 9] = [
+const PARTS: [(&str, fn()); 13] = [
     ("65,536 adds one after another, and one more", adds::one_after_another),
     ("the last two adds under each kind of keys, places freed by compaction", adds::the_last),
     ("a record of 65,537 slots over long arrays", adds::past_the_most),
@@ -48,6 +49,10 @@ const PARTS: [(&str, fn()); 9] = [
     ("files of 65,536 slots", files::written_and_read),
     ("4,096 entries at every width", sizes::most_entries),
     ("65,536 games with one trait at 4 bits", traits::most_slots),
+    ("65,536 slots in 1,024 words of live marks, in more and in one fewer", marks::most_slots),
+    ("bits at or above the slots in use, past the 1,024th word too", marks::stray),
+    ("such bits cleared by making and reading", marks::cleared),
+    ("live marks after a compaction, in more words than needed", marks::compacted),
 ];
 
 fn main() -> ExitCode {

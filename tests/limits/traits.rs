@@ -36,7 +36,7 @@ fn stages(ours: &Raw, slot: usize) -> (Stage, Option<Stage>) {
 
 fn listed(what: &str, ours: &Raw, entry: f32) {
     let query = Query::prepared(data::SEED, entry);
-    let live: Vec<(usize, u8)> = (0..ours.record[N] as usize).filter(|&slot| ours.arrays.alive[slot] == 1).map(|slot| (slot, ours.arrays.codes[slot])).collect();
+    let live: Vec<(usize, u8)> = (0..ours.record[N] as usize).filter(|&slot| data::mark(&ours.arrays.alive, slot)).map(|slot| (slot, ours.arrays.codes[slot])).collect();
     let scores = |slots: &[usize]| slots.iter().map(|&slot| (slot, query.score(stages(ours, slot)))).collect::<Vec<(usize, f32)>>();
     let all = scores(&live.iter().map(|pair| pair.0).collect::<Vec<usize>>());
     for &(slot, score) in all.iter().step_by(4099) {

@@ -80,6 +80,15 @@ fn same_list(ours: &[(u64, u32)], theirs: &[(u64, u32)]) -> bool {
     falls && set(ours) == set(theirs)
 }
 
+/// The live marks of the slots below n, one digit each, of the words that a dump has: 16 digits are 64 marks.
+fn marks(words: &str, n: usize) -> Option<String> {
+    let mark = |slot: usize| {
+        let word = words.get(slot / 64 * 16..slot / 64 * 16 + 16)?;
+        Some(if u64::from_str_radix(word, 16).ok()? >> (slot % 64) & 1 == 1 { '1' } else { '0' })
+    };
+    (0..n).map(mark).collect()
+}
+
 /// A dump cut down to the record and the slots in use, without the word of `keys` where there is no key.
 fn in_use(answer: &str) -> Option<Vec<String>> {
     let fields: Vec<&str> = answer.split(' ').collect();
@@ -96,7 +105,8 @@ fn in_use(answer: &str) -> Option<Vec<String>> {
     let keyed = part(16, 1)?;
     let keys: String = (0..n).filter(|&slot| &keyed[slot..slot + 1] == "1").filter_map(|slot| fields[14].get(16 * slot..16 * slot + 16)).collect();
     let mut parts: Vec<&str> = fields[..9].to_vec();
-    parts.extend([part(10, digits)?, part(12, 8)?, &keys, keyed, part(18, 8)?, part(20, 2)?]);
+    let marks = marks(fields[20], n)?;
+    parts.extend([part(10, digits)?, part(12, 8)?, &keys, keyed, part(18, 8)?, &marks]);
     if residual {
         parts.extend([part(22, digits)?, part(24, 8)?]);
     }

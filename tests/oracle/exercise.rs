@@ -1,9 +1,8 @@
 //! The fixed list of the program `exercise`. The Rust's answer stands where the line is inside the comparison, that of `one_trait.rs` where the Rust stops at a game
 //! with one trait; the answers to all other lines are written here, from documents 01 and 02 and from the language.
 use crate::driver::{Answer, Driver, Reason};
-use crate::language::Array;
 use crate::list::List;
-use crate::model::block_size;
+use crate::model::{block_size, MARKS};
 use crate::random::Random;
 use crate::text::{bytes, vector};
 
@@ -75,7 +74,12 @@ impl Fixed {
 
     /// Room for so many slots in every array.
     fn lend(&mut self, slots: usize, block: usize) {
-        let lengths = [slots * block, slots, slots, slots, slots, slots, slots * block, slots];
+        self.lend_words(slots, block, slots.div_ceil(MARKS));
+    }
+
+    /// The same, but for so many words of live marks.
+    fn lend_words(&mut self, slots: usize, block: usize, words: usize) {
+        let lengths = [slots * block, slots, slots, slots, slots, words, slots * block, slots];
         self.ask(format!("lend {}", lengths.map(|n| format!("{n:x}")).join(" ")));
     }
 }
@@ -113,6 +117,12 @@ pub fn list() -> List {
     making_misfits(&mut fixed);
     short_arrays(&mut fixed);
     misfits(&mut fixed);
+    stray_marks(&mut fixed);
+    cleared_marks(&mut fixed);
+    room_by_words(&mut fixed);
+    word_borders(&mut fixed);
+    compacted_words(&mut fixed);
+    marks_by_hand(&mut fixed);
     no_misfits(&mut fixed);
     histories(&mut fixed);
     twins(&mut fixed);
@@ -180,7 +190,7 @@ fn examples(f: &mut Fixed) {
     f.ask(format!("add {}", v(&[1.0, 2.0, 3.0, 4.0])));
     f.told("bits 4", "refused 6");
     f.label("8: capacity 2, third add");
-    f.ask("lend 6 2 2 2 2 2 0 0");
+    f.ask("lend 6 2 2 2 2 1 0 0");
     f.ask("new 4 1");
     f.ask(format!("add {}", v(&[1.0, 2.0, 3.0, 4.0])));
     f.ask(format!("add_keyed 7 {}", v(&[4.0, 3.0, 2.0, 1.0])));
@@ -321,9 +331,9 @@ fn keys(f: &mut Fixed) {
 fn room(f: &mut Fixed) {
     f.section("room: 8 and what is no 8, for each array that is the shortest");
     let (w, x) = (nth(2, 1), nth(2, 2));
-    for short in 0..8 {
-        // Three slots, but for one array, which holds two. At 4 bits a slot of dim 2 has one byte.
-        let lengths: Vec<String> = (0..8).map(|i| if i == short { "2".to_string() } else { "3".to_string() }).collect();
+    for short in [0, 1, 2, 3, 4, 6, 7] {
+        // Three slots, but for one array, which holds two; a word of live marks holds 64. At 4 bits a slot of dim 2 has one byte.
+        let lengths: Vec<String> = (0..8).map(|i| if i == 5 { 1 } else if i == short { 2 } else { 3 }).map(|n| n.to_string()).collect();
         f.ask(format!("lend {}", lengths.join(" ")));
         f.ask("residual 2 3");
         f.ask(format!("add_multi 7 {w}"));
@@ -335,7 +345,7 @@ fn room(f: &mut Fixed) {
         f.ask(format!("add_keyed 7 {w}"));
     }
     f.label("residual arrays count only if residual");
-    f.asks(&["lend 2 2 2 2 2 2 0 0", "new 2 3", "bits 4"]);
+    f.asks(&["lend 2 2 2 2 2 1 0 0", "new 2 3", "bits 4"]);
     f.ask(format!("add_keyed 7 {w}"));
     f.ask(format!("add_keyed 8 {x}"));
     f.told(format!("add {w}"), "refused 8");
@@ -1390,7 +1400,7 @@ impl File {
                 if self.version == 1 {
                     file.extend((0.5 + slot as f32 / 3.0).to_le_bytes());
                 } else {
-                    file.extend((0x3800 + 0x123 * slot as u16).to_le_bytes());
+                    file.extend((0x3800 + 0x123 * slot as u16 % 0x4000).to_le_bytes());
                 }
             }
             file.extend((0..self.count * self.block()).map(|_| random.word() as u8));
@@ -1552,15 +1562,15 @@ fn reading_refusals(f: &mut Fixed) {
     f.label("nothing changed");
     f.ask("dump");
     for (lengths, array) in [
-        ("2 2 2 2 2 2 4 2", "codes"), ("4 1 2 2 2 2 4 2", "scales"), ("4 2 1 2 2 2 4 2", "keys"), ("4 2 2 1 2 2 4 2", "keyed"),
-        ("4 2 2 2 1 2 4 2", "held"), ("4 2 2 2 2 1 4 2", "alive"),
+        ("2 2 2 2 2 1 4 2", "codes"), ("4 1 2 2 2 1 4 2", "scales"), ("4 2 1 2 2 1 4 2", "keys"), ("4 2 2 1 2 1 4 2", "keyed"),
+        ("4 2 2 2 1 1 4 2", "held"),
     ] {
         f.label(&format!("20: room for one slot in {array}"));
         f.ask(format!("lend {lengths}"));
         assert_eq!(read(f, &file(259, 4, 2)), "refused 20");
         assert_eq!(read(f, &file(259, 4, 1)), "ok");
     }
-    for (lengths, array) in [("4 2 2 2 2 2 2 2", "codes2"), ("4 2 2 2 2 2 4 1", "scales2")] {
+    for (lengths, array) in [("4 2 2 2 2 1 2 2", "codes2"), ("4 2 2 2 2 1 4 1", "scales2")] {
         f.label(&format!("20: room for one slot in {array}, which counts only if the file is residual"));
         f.ask(format!("lend {lengths}"));
         assert_eq!(read(f, &file(260, 4, 2)), "refused 20");
@@ -1666,7 +1676,7 @@ fn short_arrays(f: &mut Fixed) {
         f.lend(4, 2);
         f.ask(if residual { "residual 4 1" } else { "new 4 1" });
         f.asks(&["bits 4", "field n 4"]);
-        let whole = [8, 4, 4, 4, 4, 4, 8, 4];
+        let whole = [8, 4, 4, 4, 4, 1, 8, 4];
         for short in 0..8 {
             let mut lengths = whole;
             lengths[short] -= 1;
@@ -1695,7 +1705,7 @@ fn short_arrays(f: &mut Fixed) {
     f.asks(&["lend 1 1 1 1 1 1 0 0", "new 1 0", "field n 2"]);
     f.told(
         "dump",
-        "record 1 1 0 5 0 2 0 0 codes 00 scales 00000000 keys 0000000000000000 keyed 0 held 00000000 alive 00 codes2 - scales2 -",
+        "record 1 1 0 5 0 2 0 0 codes 00 scales 00000000 keys 0000000000000000 keyed 0 held 00000000 alive 0000000000000000 codes2 - scales2 -",
     );
     f.asks(&[
         "field dim ffffffffffffffff", "field working_dim 0", "field seed ffffffffffffffff", "field bits ff", "field residual 1", "field live 3",
@@ -1705,7 +1715,7 @@ fn short_arrays(f: &mut Fixed) {
     f.told(
         "dump",
         "record ffffffffffffffff 0 ffffffffffffffff ff 1 2 3 1 codes 1f scales 7f800001 \
-         keys 0123456789abcdef keyed 1 held ffffffff alive 80 codes2 - scales2 -",
+         keys 0123456789abcdef keyed 1 held ffffffff alive 0000000000000080 codes2 - scales2 -",
     );
     f.told_all(&["contains 0", "compact", "enable", "bits 4"], "refused 13");
     f.ask("new 1 0");
@@ -1751,17 +1761,19 @@ fn misfits(f: &mut Fixed) {
         ("more slots in use than the arrays hold", &["field n 7"], &["field n 4"]),
         ("over 65,536 slots in use", &["field n 10001"], &["field n 4"]),
         ("2^64 - 1 slots in use", &["field n ffffffffffffffff"], &["field n 4"]),
-        ("a live mark of 2", &["set alive 0 2"], &["set alive 0 1"]),
-        ("a live mark of 255", &["set alive 3 ff"], &["set alive 3 1"]),
-        ("a live mark of 2 on the dead slot", &["set alive 1 2"], &["set alive 1 0"]),
+        ("a bit at the slots in use", &["set alive 0 1d"], &["set alive 0 d"]),
+        ("a bit above them", &["set alive 0 4d"], &["set alive 0 d"]),
+        ("the last bit of the word", &["set alive 0 800000000000000d"], &["set alive 0 d"]),
+        ("every bit", &["set alive 0 ffffffffffffffff"], &["set alive 0 d"]),
         ("a live count too high", &["field live 4"], &["field live 3"]),
         ("a live count too low", &["field live 2"], &["field live 3"]),
         ("a live count of 2^64 - 1", &["field live ffffffffffffffff"], &["field live 3"]),
-        ("a live mark more", &["set alive 1 1"], &["set alive 1 0"]),
-        ("a live mark less", &["set alive 3 0"], &["set alive 3 1"]),
+        ("a live mark more", &["set alive 0 f"], &["set alive 0 d"]),
+        ("a live mark less", &["set alive 0 5"], &["set alive 0 d"]),
+        ("no live mark", &["set alive 0 0"], &["set alive 0 d"]),
         ("slots in use fewer than the live count says", &["field n 3"], &["field n 4"]),
         ("a key on a dead slot", &["set keyed 1 1"], &["set keyed 1 0"]),
-        ("a key on a slot that died", &["set alive 0 0", "field live 2"], &["set alive 0 1", "field live 3"]),
+        ("a key on a slot that died", &["set alive 0 c", "field live 2"], &["set alive 0 d", "field live 3"]),
         ("positions 0 and 0", &["set held 2 0"], &["set held 2 1"]),
         ("positions 0 and 2", &["set held 2 2"], &["set held 2 1"]),
         ("positions 1 and 1", &["set held 0 1"], &["set held 0 0"]),
@@ -1784,6 +1796,326 @@ fn misfits(f: &mut Fixed) {
     cases.iter().enumerate().for_each(|(turn, case)| run(f, turn, case));
 }
 
+// ---- live marks as bits (document 02, Req 02)
+
+/// A dump whose words of live marks are stated.
+fn dump_words(f: &mut Fixed, words: &[u64]) {
+    let answer = f.either("dump");
+    let stated: String = words.iter().map(|word| format!("{word:016x}")).collect();
+    assert_eq!(answer.split(' ').nth(20), Some(stated.as_str()), "the words of live marks");
+}
+
+/// The words, of which so many are lent, where the first n slots are live.
+fn first_marks(n: usize, words: usize) -> Vec<u64> {
+    (0..words).map(|i| n.saturating_sub(64 * i)).map(|left| if left < 64 { (1 << left) - 1 } else { u64::MAX }).collect()
+}
+
+fn set_words(f: &mut Fixed, words: &[u64]) {
+    for (i, word) in words.iter().enumerate() {
+        f.ask(format!("set alive {i:x} {word:x}"));
+    }
+}
+
+/// Each call of an index of two entries that is there.
+fn all_calls() -> Vec<String> {
+    let w = nth(2, 0);
+    let mut lines: Vec<String> = [
+        "bits 4", "bits 7", "relabel 7 9", "relabel 7 7", "remove 7", "remove_at 7 0", "key_of 0", "contains 7", "slot_at 7 0", "enable", "compact", "length",
+        "write 1000",
+    ]
+    .map(str::to_string)
+    .to_vec();
+    lines.extend(["add", "add_keyed 7", "add_keyed 9", "add_multi 7", "score 0", "search 1 1", "search_keyed 1 1", "search_cascade 1 1 1"].map(|call| format!("{call} {w}")));
+    lines
+}
+
+fn stray_marks(f: &mut Fixed) {
+    f.section("13: a bit at or above the slots in use, in any lent word (document 02, Req 02); nothing changes, and it is set back");
+    let calls = all_calls();
+    let mut turn = 0;
+    for (n, words) in [(4, 3), (63, 1), (64, 3), (65, 2), (128, 3), (130, 4)] {
+        f.label(&format!("{n} slots in use, {words} lent: key 7 on the first and the last, slot 1 dead"));
+        f.lend_words(n + 1, 1, words);
+        assert_eq!(read(f, &File::new(259, 2, 4, n, &[(0, 7), (n as u32 - 1, 7), (1, 8)]).bytes()), "ok");
+        f.asks(&["enable", "remove 8"]);
+        let mut marks = first_marks(n, words);
+        marks[0] ^= 2;
+        dump_words(f, &marks);
+        // At n, above it, the last one of its word, the first one of the next, in the last word.
+        let mut strays = vec![n, n + 1, n / 64 * 64 + 63, n / 64 * 64 + 64, 64 * words - 1];
+        strays.retain(|&bit| n <= bit && bit < 64 * words);
+        strays.dedup();
+        for bit in strays {
+            f.label(&format!("bit {bit}"));
+            let mut stray = marks.clone();
+            stray[bit / 64] |= 1 << (bit % 64);
+            f.ask(format!("set alive {:x} {:x}", bit / 64, stray[bit / 64]));
+            let some = if n == 64 && bit == 64 { calls.len() } else { 5 };
+            for i in 0..some {
+                f.told(calls[(turn + i) % calls.len()].clone(), "refused 13");
+            }
+            turn += some;
+            if n < 64 || bit == n {
+                dump_words(f, &stray);
+            }
+            f.label("it is not counted as live, and the count does not make up for it");
+            f.ask(format!("field live {n:x}"));
+            f.told("contains 7", "refused 13");
+            f.ask(format!("field live {:x}", n - 1));
+            f.ask(format!("set alive {:x} {:x}", bit / 64, marks[bit / 64]));
+            f.ask("contains 7");
+        }
+        if 2 < n && n % 64 > 0 {
+            f.label("the mark of an unkeyed slot moved to the bit at the slots in use");
+            let last = n / 64;
+            let unkeyed = if last > 0 && n % 64 > 1 { 1 << (n % 64 - 2) } else { 4 };
+            let at = if unkeyed == 4 { 0 } else { last };
+            f.ask(format!("set alive {at:x} {:x}", marks[at] ^ unkeyed));
+            let base = if at == last { marks[last] ^ unkeyed } else { marks[last] };
+            f.ask(format!("set alive {last:x} {:x}", base | 1 << (n % 64)));
+            f.told("contains 7", "refused 13");
+            f.told("compact", "refused 13");
+            f.ask(format!("set alive {at:x} {:x}", marks[at]));
+            f.ask(format!("set alive {last:x} {:x}", marks[last]));
+        }
+        dump_words(f, &marks);
+    }
+}
+
+fn cleared_marks(f: &mut Fixed) {
+    f.section("making and reading leave 0 in every bit at or above the slots in use, in all lent words; refused, they change nothing");
+    let strays = [[u64::MAX, 1, 1 << 63, u64::MAX], [0x10, 0, 0, 0], [1 << 63, 0, 0, 0], [0, 1, 0, 0], [0, 0, 0, 1 << 63]];
+    f.lend_words(2, 3, 4);
+    f.ask("new 4 1");
+    for making in ["new 4 1", "working 4 3 1", "residual 4 1"] {
+        for words in &strays {
+            f.label(&format!("{making}, over set bits"));
+            set_words(f, words);
+            f.told("contains 7", "refused 13");
+            f.told("new 1001 1", "refused 4");
+            f.told("working 4 5 1", "refused 4");
+            dump_words(f, words);
+            f.ask(making);
+            dump_words(f, &[0; 4]);
+        }
+        f.ask(format!("add_keyed 7 {}", nth(4, 1)));
+        f.ask(format!("add {}", nth(4, 2)));
+        dump_words(f, &[3, 0, 0, 0]);
+        f.label("making again, over live slots");
+        f.ask(making);
+        dump_words(f, &[0; 4]);
+    }
+    f.label("13 of making leaves them");
+    f.ask("lend 3 0 1 1 1 2 0 0");
+    set_words(f, &[u64::MAX, 1]);
+    f.told_all(&["new 4 1", "working 4 3 1", "residual 4 1"], "refused 13");
+    dump_words(f, &[u64::MAX, 1]);
+    for count in [0, 1, 63, 64, 65] {
+        f.label(&format!("a file of {count} slots, read over set bits"));
+        let file = File::new(259, 2, 4, count, &[]).bytes();
+        f.lend_words(count + 1, 1, 4);
+        for words in if count < 63 { &strays[..] } else { &strays[..1] } {
+            set_words(f, words);
+            assert_eq!(read(f, &file[..file.len() - 1]), "refused 14");
+            assert_eq!(read(f, &File::new(259, 2, 4, count + 2, &[]).bytes()), "refused 20");
+            dump_words(f, words);
+            assert_eq!(read(f, &file), "ok");
+            dump_words(f, &first_marks(count, 4));
+        }
+    }
+}
+
+fn room_by_words(f: &mut Fixed) {
+    f.section("room by words of live marks, 64 slots a word: 8, 13 and 20");
+    let w = nth(2, 1);
+    for (words, slots) in [(1, 64), (2, 128)] {
+        let keys = [(0, 7), (3, 8), (slots as u32 - 1, 7)];
+        f.label(&format!("20: {} slots, {words} words", slots + 1));
+        f.lend_words(slots + 2, 1, words);
+        assert_eq!(read(f, &File::new(259, 2, 4, slots + 1, &keys).bytes()), "refused 20");
+        assert_eq!(read(f, &File::new(259, 2, 4, slots, &keys).bytes()), "ok");
+        dump_words(f, &first_marks(slots, words));
+        f.label("8, and what is no 8");
+        for call in ["add", "add_keyed 9", "add_multi 7"] {
+            f.told(format!("{call} {w}"), "refused 8");
+        }
+        f.ask(format!("add_keyed 7 {w}"));
+        f.ask("remove 8");
+        f.told(format!("add {w}"), "refused 8");
+        f.ask("compact");
+        dump_words(f, &first_marks(slots - 1, words));
+        f.ask(format!("add_keyed 9 {w}"));
+        dump_words(f, &first_marks(slots, words));
+        f.told(format!("add_multi 9 {w}"), "refused 8");
+        f.label("one word more");
+        f.lend_words(slots + 2, 1, words + 1);
+        assert_eq!(read(f, &File::new(259, 2, 4, slots + 1, &keys).bytes()), "ok");
+        f.ask(format!("add {w}"));
+        f.told(format!("add {w}"), "refused 8");
+        dump_words(f, &first_marks(slots + 2, words + 1));
+    }
+    f.label("appends up to the last bit of the only word");
+    f.lend_words(65, 1, 1);
+    assert_eq!(read(f, &File::new(259, 2, 4, 61, &[]).bytes()), "ok");
+    for call in ["add", "add_keyed 9", "add_multi 9"] {
+        f.ask(format!("{call} {w}"));
+    }
+    dump_words(f, &[u64::MAX]);
+    f.told(format!("add {w}"), "refused 8");
+    f.label("13: fewer words than the slots in use need; dead slots, so that arrays lent anew fit if they are long enough");
+    f.lend(1, 2);
+    f.asks(&["new 2 1", "bits 4"]);
+    for (n, words) in [(1, 1), (64, 1), (65, 2), (128, 2), (129, 3)] {
+        f.ask(format!("field n {n:x}"));
+        f.lend_words(n + 1, 1, words - 1);
+        for line in all_calls().into_iter().skip(n % 7).step_by(5) {
+            f.told(line, "refused 13");
+        }
+        f.lend_words(n + 1, 1, words);
+        f.asks(&["contains 7", "key_of 0"]);
+        dump_words(f, &vec![0; words]);
+        f.ask("compact");
+        f.ask(format!("add {w}"));
+        dump_words(f, &first_marks(1, words));
+        f.asks(&["new 2 1", "bits 4"]);
+    }
+    f.label("no word: 13 of making, 20 of a slot, and nothing against a file without slots");
+    f.lend_words(1, 2, 0);
+    f.told_all(&["new 2 1", "working 2 1 1", "residual 2 1"], "refused 13");
+    assert_eq!(read(f, &File::new(259, 2, 4, 1, &[]).bytes()), "refused 20");
+    assert_eq!(read(f, &File::new(259, 2, 4, 0, &[]).bytes()), "ok");
+    f.told(format!("add {w}"), "refused 8");
+    f.label("all words that the program holds");
+    f.lend_words(3, 2, 64);
+    short_history(f, 2, "new 2 5", 5, false);
+    dump_words(f, &first_marks(3, 64));
+}
+
+fn word_borders(f: &mut Fixed) {
+    f.section("slots 63, 64, 65, 127 and 128: adding, overwriting, relabelling, removals, questions, searches over three words");
+    for (making, width) in [("new 2 1", 4), ("new 2 6", 6), ("residual 2 3", 4)] {
+        let residual = making.starts_with("residual");
+        f.lend_words(134, 2, 4);
+        f.ask(making);
+        f.ask(format!("bits {width:x}"));
+        for slot in 0..131 {
+            if making == "new 2 1" && [64, 65, 128].contains(&slot) {
+                dump_words(f, &first_marks(slot, 4));
+            }
+            let w = nth(2, slot as u64 % 40);
+            f.ask(if slot % 7 == 3 { format!("add {w}") } else { format!("add_multi {:x} {w}", slot % 11) });
+        }
+        f.label("a key of slots 131 and 132");
+        f.ask(format!("add_keyed 63 {}", nth(2, 41)));
+        f.ask(format!("add_multi 63 {}", nth(2, 42)));
+        f.ask(format!("add_keyed 63 {}", nth(2, 43)));
+        f.asks(&["relabel 63 3f", "relabel 3f 9", "slot_at 3f 0", "slot_at 3f 1", "contains 63", "key_of 83"]);
+        f.label("single removals at the borders");
+        for slot in [63, 64, 65, 127, 128] {
+            f.ask(format!("remove_at {:x} {slot:x}", slot % 11));
+            f.ask(format!("remove_at {:x} {slot:x}", slot % 11));
+            f.ask(format!("key_of {slot:x}"));
+        }
+        // 133 slots: 128 to 132 are the lowest five bits of the third word.
+        dump_words(f, &[!(1 << 63), !(1 << 63 | 3), 0x1e, 0]);
+        f.label("a dead slot is scored");
+        let query = nth(2, 50);
+        for slot in ["3f", "40", "41", "42", "7f", "80", "84"] {
+            f.ask(format!("score {slot} {query}"));
+        }
+        f.told(format!("score 85 {query}"), "refused 9");
+        let searches = |f: &mut Fixed| {
+            for k in ["3", "c8"] {
+                f.either(format!("search {k} c8 {query}"));
+                f.either(format!("search_keyed {k} c8 {query}"));
+            }
+            if width == 4 {
+                f.ask("enable");
+                for (k, r) in [("1", "1"), ("5", "40"), ("c8", "41"), ("c8", "c8")] {
+                    f.either(format!("search_cascade {k} {r} c8 {query}"));
+                }
+            }
+        };
+        searches(f);
+        f.label("a whole key, in every word; then the file");
+        f.asks(&["slot_at 4 0", "slot_at 4 5", "remove 4", "contains 4", "length", "write 1000"]);
+        let fours: Vec<usize> = (0..131).filter(|slot| slot % 7 != 3 && slot % 11 == 4).collect();
+        let mut marks = vec![!(1 << 63), !(1 << 63 | 3), 0x1e, 0];
+        fours.iter().for_each(|slot| marks[slot / 64] &= !(1 << (slot % 64)));
+        if !residual {
+            dump_words(f, &marks);
+        }
+        searches(f);
+        f.label("compaction");
+        let left = 133 - 5 - fours.iter().filter(|slot| ![63, 64, 65, 127, 128].contains(slot)).count();
+        assert_eq!(f.either("compact"), "ok");
+        dump_words(f, &first_marks(left, 4));
+        searches(f);
+        f.ask(format!("add_keyed 4 {}", nth(2, 44)));
+        dump_words(f, &first_marks(left + 1, 4));
+    }
+}
+
+fn compacted_words(f: &mut Fixed) {
+    f.section("compaction of 130 slots leaves 0 in every bit above those that are left");
+    for left in [0, 1, 63, 64, 65, 127, 128, 130] {
+        // 37 and 130 have no divisor in common, so that so many slots, from every word, are left.
+        let stays = |slot: usize| slot * 37 % 130 < left;
+        let keys: Vec<(u32, u64)> = (0..130).filter(|&slot| !stays(slot) || slot % 3 == 0).map(|slot| (slot as u32, if stays(slot) { 6 } else { 5 })).collect();
+        f.lend_words(130, 1, 3);
+        assert_eq!(read(f, &File::new(259, 2, 4, 130, &keys).bytes()), "ok");
+        f.ask("remove 5");
+        let mut marks = vec![0; 3];
+        (0..130).filter(|&slot| stays(slot)).for_each(|slot| marks[slot / 64] |= 1 << (slot % 64));
+        if left == 64 {
+            dump_words(f, &marks);
+        }
+        f.ask("length");
+        f.ask(format!("search 5 5 {}", nth(2, 9)));
+        f.ask("compact");
+        dump_words(f, &first_marks(left, 3));
+        f.asks(&["contains 5", "slot_at 6 0", "slot_at 6 1"]);
+        f.ask(format!("search 5 5 {}", nth(2, 9)));
+    }
+}
+
+fn marks_by_hand(f: &mut Fixed) {
+    f.section("live marks set by hand over three words: searches, cascades, files, compaction");
+    f.lend_words(130, 1, 3);
+    let query = nth(2, 3);
+    for words in [[u64::MAX / 3, u64::MAX / 3 * 2, 1], [1 << 63, 1, 2], [0, 0, 3], [0, u64::MAX, 0], [1, 0, 0], [0; 3]] {
+        assert_eq!(read(f, &File::new(259, 2, 4, 130, &[]).bytes()), "ok");
+        set_words(f, &words);
+        let live: u32 = words.iter().map(|word| word.count_ones()).sum();
+        if live < 130 {
+            f.label("a wrong live count: 13");
+            f.told("contains 7", "refused 13");
+            for wrong in [live + 1, live.wrapping_sub(1), 130] {
+                f.ask(format!("field live {wrong:x}"));
+                f.told_all(&["key_of 40", "length"], "refused 13");
+            }
+        }
+        f.label("the right one");
+        f.ask(format!("field live {live:x}"));
+        f.asks(&["contains 7", "enable"]);
+        f.ask(format!("search c8 c8 {query}"));
+        f.ask(format!("search 3 3 {query}"));
+        f.ask(format!("search_keyed 3 3 {query}"));
+        for (k, r) in [("3", "14"), ("c8", "c8"), ("0", "0")] {
+            f.ask(format!("search_cascade {k} {r} c8 {query}"));
+        }
+        f.asks(&["length", "write 1000"]);
+        dump_words(f, &words);
+        f.label("a key on a dead slot: 13");
+        let dead = (0..130).find(|slot| words[slot / 64] >> (slot % 64) & 1 == 0 && *slot >= 64).expect("one is dead");
+        f.ask(format!("set keyed {dead:x} 1"));
+        f.told_all(&["contains 7", "compact"], "refused 13");
+        f.ask(format!("set keyed {dead:x} 0"));
+        f.ask("compact");
+        dump_words(f, &first_marks(live as usize, 3));
+    }
+}
+
 fn no_misfits(f: &mut Fixed) {
     f.section("what is no misfit");
     f.lend(5, 3);
@@ -1792,8 +2124,8 @@ fn no_misfits(f: &mut Fixed) {
     f.ask(format!("add_keyed 8 {}", nth(4, 2)));
     f.ask(format!("add_multi 7 {}", nth(4, 3)));
     f.ask(format!("add {}", nth(4, 4)));
-    f.label("marks, keys and positions past the slots in use");
-    f.asks(&["set alive 4 2", "set keyed 4 1", "set keys 4 7", "set held 4 9", "contains 7", "slot_at 7 2", "key_of 4", "remove_at 7 4", "dump"]);
+    f.label("keys and positions past the slots in use");
+    f.asks(&["set keyed 4 1", "set keys 4 7", "set held 4 9", "contains 7", "slot_at 7 2", "key_of 4", "remove_at 7 4", "dump"]);
     f.ask(format!("add {}", nth(4, 5)));
     f.ask("dump");
     f.label("the word of an unkeyed or a dead slot");
@@ -1891,7 +2223,7 @@ struct Twin {
 
 impl Twin {
     fn is_live(f: &Fixed, slot: usize) -> bool {
-        f.driver.arrays.get(Array::Alive, slot) == 1
+        f.driver.arrays.mark(slot)
     }
 
     fn live(&self, f: &Fixed) -> Vec<usize> {
@@ -2004,10 +2336,10 @@ fn unreadable(f: &mut Fixed) {
             "remove 7 0", "remove_at 7", "remove_at 7 0 0", "add_keyed 7", "add_multi 7", "add_keyed - 3f800000", "add 3f80000", "add 3f8000000",
             "add 3F800000", "add 3f800000 3f800000", "add 3f800000-", "add -3f80000", "add --", "add 3f80000g", "add_keyed 7 7 3f800000", "lend",
             "lend 1 1 1 1 1 1 1", "lend 1 1 1 1 1 1 1 1 1", "lend 100001 1 1 1 1 1 1 1", "lend 1 1001 1 1 1 1 1 1", "lend 1 1 1001 1 1 1 1 1",
-            "lend 1 1 1 1001 1 1 1 1", "lend 1 1 1 1 1001 1 1 1", "lend 1 1 1 1 1 1001 1 1", "lend 1 1 1 1 1 1 100001 1", "lend 1 1 1 1 1 1 1 1001",
+            "lend 1 1 1 1001 1 1 1 1", "lend 1 1 1 1 1001 1 1 1", "lend 1 1 1 1 1 41 1 1", "lend 1 1 1 1 1 1 100001 1", "lend 1 1 1 1 1 1 1 1001",
             "lend - 1 1 1 1 1 1 1", "lend 01 1 1 1 1 1 1 1", "set", "set codes 0", "set codes 0 0 0", "set code 0 0", "set codes 6 0", "set scales 2 0",
-            "set keys 2 0", "set keyed 2 0", "set held 2 0", "set alive 2 0", "set codes2 6 0", "set scales2 2 0", "set codes ffffffffffffffff 0",
-            "set codes 0 100", "set scales 0 100000000", "set keys 0 10000000000000000", "set keyed 0 2", "set held 0 100000000", "set alive 0 100",
+            "set keys 2 0", "set keyed 2 0", "set held 2 0", "set alive 1 0", "set codes2 6 0", "set scales2 2 0", "set codes ffffffffffffffff 0",
+            "set codes 0 100", "set scales 0 100000000", "set keys 0 10000000000000000", "set keyed 0 2", "set held 0 100000000", "set alive 0 10000000000000000",
             "set codes2 0 100", "set scales2 0 100000000", "set codes 0 -", "field", "field dim", "field dim 4 4", "field width 4",
             "field dim 10000000000000000", "field working_dim 04", "field seed 10000000000000000", "field bits 100", "field residual 2", "field n -1",
             "field live 10000000000000000", "field cascade 2", "field Dim 4",
@@ -2018,16 +2350,19 @@ fn unreadable(f: &mut Fixed) {
     f.ask("dump");
     f.label("the largest that each takes");
     f.asks(&[
-        "set codes 5 ff", "set scales 1 ffffffff", "set keys 1 ffffffffffffffff", "set keyed 1 1", "set held 1 ffffffff", "set alive 1 ff",
+        "set codes 5 ff", "set scales 1 ffffffff", "set keys 1 ffffffffffffffff", "set keyed 1 1", "set held 1 ffffffff",
         "set codes2 5 ff", "set scales2 1 ffffffff",
     ]);
-    f.asks(&["dump", "contains ffffffffffffffff"]);
+    f.asks(&["dump", "contains ffffffffffffffff", "set alive 0 ffffffffffffffff"]);
+    dump_words(f, &[u64::MAX]);
+    f.told("contains 7", "refused 13");
+    f.ask("set alive 0 1");
     f.label("the longest line that is read, and one byte more");
     let longest = v(&vec![1.0; 17_498]);
     f.told(format!("add_keyed 12345 {longest}"), "refused 1");
     f.told(format!("add_keyed 123456 {longest}"), "?");
     f.label("all that the program holds");
-    f.asks(&["lend 100000 1000 1000 1000 1000 1000 100000 1000", "new 1000 1"]);
+    f.asks(&["lend 100000 1000 1000 1000 1000 40 100000 1000", "set alive 3f ffffffffffffffff", "new 1000 1"]);
     f.ask("lend 0 0 0 0 0 0 0 0");
     f.ask("dump");
     f.label("empty lines and comments");

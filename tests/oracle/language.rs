@@ -3,6 +3,8 @@
 /// "a line of over 140,000 bytes, its newline not counted" can't be read.
 const LONGEST_LINE: usize = 140_000;
 pub const MOST_SLOTS: usize = 4096;
+/// "64 marks to a word": the program holds 64.
+pub const MOST_WORDS: usize = 64;
 pub const MOST_CODE_BYTES: usize = 1 << 20;
 pub const MOST_PLACES: usize = 4096;
 pub const MOST_FILE_BYTES: usize = 65_536;
@@ -36,15 +38,16 @@ impl Array {
     pub fn most(self) -> usize {
         match self {
             Array::Codes | Array::Codes2 => MOST_CODE_BYTES,
+            Array::Alive => MOST_WORDS,
             _ => MOST_SLOTS,
         }
     }
 
     fn largest(self) -> u64 {
         match self {
-            Array::Codes | Array::Codes2 | Array::Alive => u8::MAX as u64,
+            Array::Codes | Array::Codes2 => u8::MAX as u64,
             Array::Scales | Array::Scales2 | Array::Held => u32::MAX as u64,
-            Array::Keys => u64::MAX,
+            Array::Keys | Array::Alive => u64::MAX,
             Array::Keyed => 1,
         }
     }

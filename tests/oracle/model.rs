@@ -1,4 +1,4 @@
-//! The record and the lent arrays that the program `exercise` holds, read from its language, and document 01's refusals 8, 13 and 20 about them.
+//! The record and the lent arrays that the program `exercise` holds, read from its language, and the refusals 8, 13 and 20 about them, by documents 01 and 02.
 use crate::language::{Array, Field};
 use vecq::rhdh::padded_dim;
 
@@ -25,10 +25,14 @@ pub struct Arrays {
     pub keys: Vec<u64>,
     pub keyed: Vec<bool>,
     pub held: Vec<u32>,
-    pub alive: Vec<u8>,
+    /// live marks, see `mark`
+    pub alive: Vec<u64>,
     pub codes2: Vec<u8>,
     pub scales2: Vec<u32>,
 }
+
+/// "64 to a 64-bit word" (document 02, Req 02)
+pub const MARKS: usize = 64;
 
 /// Bytes per vector: "padded times width, over 8, rounded up".
 pub fn block_size(working: usize, bits: u8) -> usize {
@@ -87,9 +91,23 @@ impl Arrays {
         }
     }
 
+    /// "slot s at bit s modulo 64 of word s divided by 64"; one past the lent words has none.
+    pub fn mark(&self, slot: usize) -> bool {
+        self.alive.get(slot / MARKS).is_some_and(|word| word >> (slot % MARKS) & 1 == 1)
+    }
+
+    /// "Every accepted call, compaction too, leaves 0 in all bits at or above the slots in use": these are the marks of all slots in use.
+    pub fn set_marks(&mut self, marks: &[bool]) {
+        self.alive.fill(0);
+        for slot in (0..marks.len()).filter(|&slot| marks[slot]) {
+            self.alive[slot / MARKS] |= 1 << (slot % MARKS);
+        }
+    }
+
     /// "the fewest slots that any lent array of the index holds, residual arrays only if residual, at most 65,536"
     pub fn capacity(&self, block: usize, residual: bool) -> usize {
-        let mut rooms = vec![MOST_IN_USE, self.codes.len() / block, self.scales.len(), self.keys.len(), self.keyed.len(), self.held.len(), self.alive.len()];
+        let marks = MARKS * self.alive.len();
+        let mut rooms = vec![MOST_IN_USE, self.codes.len() / block, self.scales.len(), self.keys.len(), self.keyed.len(), self.held.len(), marks];
         if residual {
             rooms.extend([self.codes2.len() / block, self.scales2.len()]);
         }
@@ -116,7 +134,7 @@ impl Arrays {
             Array::Keys => self.keys[at],
             Array::Keyed => self.keyed[at] as u64,
             Array::Held => self.held[at] as u64,
-            Array::Alive => self.alive[at] as u64,
+            Array::Alive => self.alive[at],
             Array::Codes2 => self.codes2[at] as u64,
             Array::Scales2 => self.scales2[at] as u64,
         }
@@ -129,14 +147,14 @@ impl Arrays {
             Array::Keys => self.keys[at] = value,
             Array::Keyed => self.keyed[at] = value == 1,
             Array::Held => self.held[at] = value as u32,
-            Array::Alive => self.alive[at] = value as u8,
+            Array::Alive => self.alive[at] = value,
             Array::Codes2 => self.codes2[at] = value as u8,
             Array::Scales2 => self.scales2[at] = value as u32,
         }
     }
 }
 
-/// Whether 13 does not come from the index: document 01's sentence, clause by clause.
+/// Whether 13 does not come from the index: document 01's sentence, clause by clause, with document 02's on bits at or above the slots in use.
 pub fn fits(record: &Record, arrays: &Arrays) -> bool {
     let Record { dim, working_dim, bits, residual, n, live, .. } = *record;
     if !(1..=MOST_DIM).contains(&dim) || !(1..=dim).contains(&working_dim) || !(4..=6).contains(&bits) || (residual && bits != 4) {
@@ -145,12 +163,11 @@ pub fn fits(record: &Record, arrays: &Arrays) -> bool {
     if n > record.room(arrays) {
         return false;
     }
-    let marks = &arrays.alive[..n];
-    if marks.iter().any(|&m| m > 1) || marks.iter().filter(|&&m| m == 1).count() != live {
+    if (n..MARKS * arrays.alive.len()).any(|slot| arrays.mark(slot)) || (0..n).filter(|&slot| arrays.mark(slot)).count() != live {
         return false;
     }
     let (keyed, others): (Vec<usize>, Vec<usize>) = (0..n).partition(|&slot| arrays.keyed[slot]);
-    if keyed.iter().any(|&slot| arrays.alive[slot] == 0) || others.iter().any(|&slot| arrays.held[slot] != 0) {
+    if keyed.iter().any(|&slot| !arrays.mark(slot)) || others.iter().any(|&slot| arrays.held[slot] != 0) {
         return false;
     }
     let mut pairs: Vec<(u64, u32)> = keyed.iter().map(|&slot| (arrays.keys[slot], arrays.held[slot])).collect();
@@ -171,16 +188,17 @@ pub fn dump(record: &Record, arrays: &Arrays) -> String {
     let Record { dim, working_dim, seed, bits, residual, n, live, cascade } = record;
     let byte = |b: &u8| format!("{b:02x}");
     let word = |w: &u32| format!("{w:08x}");
+    let long = |w: &u64| format!("{w:016x}");
     format!(
         "record {dim:x} {working_dim:x} {seed:x} {bits:x} {:x} {n:x} {live:x} {:x} codes {} scales {} keys {} keyed {} held {} alive {} codes2 {} scales2 {}",
         *residual as u8,
         *cascade as u8,
         run(&arrays.codes, byte),
         run(&arrays.scales, word),
-        run(&arrays.keys, |key| format!("{key:016x}")),
+        run(&arrays.keys, long),
         run(&arrays.keyed, |&on| (on as u8).to_string()),
         run(&arrays.held, word),
-        run(&arrays.alive, byte),
+        run(&arrays.alive, long),
         run(&arrays.codes2, byte),
         run(&arrays.scales2, word),
     )

@@ -1,7 +1,7 @@
 //! Random scripts for the program `exercise`: many short histories, the same for the same seed.
 use crate::driver::Driver;
 use crate::language::{bytes as read_bytes, Array, Field, ARRAYS, FIELDS};
-use crate::model::{block_size, fits};
+use crate::model::{block_size, fits, MARKS};
 use crate::one_trait;
 use crate::random::Random;
 use crate::text::{bytes, vector};
@@ -10,11 +10,12 @@ use std::io::Write;
 /// Keys of a history are few, so that they clash.
 const KEYS: [u64; 10] = [0, 1, 2, 3, 7, 0xff, 1 << 32, 1 << 63, u64::MAX - 1, u64::MAX];
 
-const UNREADABLE: [&str; 30] = [
-    "add", "add_keyed 1", "remove 01", "bits 100", "set codes fffff 1", "set keyed 0 2", "set alive 0 100", "foo", "dump 1", " dump", "dump ", "contains g",
+const UNREADABLE: [&str; 32] = [
+    "add", "add_keyed 1", "remove 01", "bits 100", "set codes fffff 1", "set keyed 0 2", "set alive 0 10000000000000000", "foo", "dump 1", " dump", "dump ", "contains g",
     "contains 10000000000000000", "contains A", "field bits 100", "field residual 2", "field slots 1", "lend 1 1 1 1 1 1 1", "lend 100001 1 1 1 1 1 1 1",
     "lend 1 1001 1 1 1 1 1 1", "new 4", "relabel 1  2", "add 3f80000", "compact compact",
     "score 0", "search 1 1001 3f800000", "search_cascade 1 1 3f800000", "length 1", "write 10001", "read 564",
+    "set alive 40 0", "lend 1 1 1 1 1 41 1 1",
 ];
 
 pub struct Script<W: Write> {
@@ -56,7 +57,7 @@ pub fn write_large(mut out: impl Write, seed: u64, count: usize) {
         let dim = if matches!(number % 8, 4 | 7) { 1 } else { [2, 3, 8, 17, 33, 64][random.below(6) as usize] };
         let bytes = 4096 * block_size(dim, 6);
         let mut line = |line: String| writeln!(out, "{line}").expect("the script is written");
-        line(format!("lend {bytes:x} 1000 1000 1000 1000 1000 {bytes:x} 1000"));
+        line(format!("lend {bytes:x} 1000 1000 1000 1000 40 {bytes:x} 1000"));
         line(format!("{making} {dim:x} {:x}", random.word()));
         line(format!("bits {width:x}"));
         // Few different entries, so that scores are often equal; or many.
@@ -165,6 +166,10 @@ impl<W: Write> Script<W> {
         let (dim, working, width, residual) = self.shape();
         self.lend(block_size(working, width.max(5)));
         let seed = self.seed();
+        if self.rarely(6) {
+            // Making clears them.
+            self.stray();
+        }
         if self.rarely(12) {
             let line = self.refused_making(dim, seed);
             self.call(line);
@@ -183,16 +188,69 @@ impl<W: Write> Script<W> {
             let width = if residual && self.rarely(4) { self.pick(&[5, 6]) } else { width };
             self.call(format!("bits {width:x}"));
         }
+        self.fill();
     }
 
+    /// An index of many slots is filled up to some of its last ones, so that its slots stand in several words of live marks.
+    fn fill(&mut self) {
+        let Driver { record, arrays, .. } = &self.driver;
+        let room = if fits(record, arrays) { record.room(arrays) } else { 0 };
+        if room < 60 || self.rarely(4) {
+            return;
+        }
+        for _ in 0..room - self.below(5) {
+            let line = match self.below(3) {
+                0 => format!("add {}", self.vector()),
+                _ => format!("add_multi {:x} {}", self.key(), self.vector()),
+            };
+            self.call(line);
+        }
+        if self.rarely(2) {
+            let line = self.remove_at();
+            self.call(line);
+        }
+    }
+
+    /// Sets a bit, mostly one at or above the slots in use, of the first words or of any. Where and what the word was; none if no word is lent.
+    fn stray(&mut self) -> Option<(usize, u64)> {
+        let bits = MARKS * self.driver.arrays.alive.len();
+        if bits == 0 {
+            return None;
+        }
+        let n = self.driver.record.n.min(bits - 1);
+        let bit = match self.below(8) {
+            0..=2 => n,
+            3 => (n + 1).min(bits - 1),
+            4 => n / MARKS * MARKS + MARKS - 1,
+            5 => self.below(n + 1),
+            6 => bits - 1,
+            _ => self.below(bits),
+        };
+        let at = bit / MARKS;
+        let old = self.driver.arrays.alive[at];
+        let word = if self.rarely(10) { self.random.word() } else { old ^ 1 << (bit % MARKS) };
+        self.line(format!("set alive {at:x} {word:x}"));
+        Some((at, old))
+    }
+
+    /// Room for some slots: at times as many as there are bits in a word of live marks or two, and about so many.
     fn lend(&mut self, block: usize) {
-        let slots = self.pick(&[1, 2, 3, 5, 8, 8, 12, 16, 24, 32]);
+        let many = self.rarely(12);
+        let slots = if many { self.pick(&[62, 63, 64, 65, 100, 127, 128, 129, 140]) } else { self.pick(&[1, 2, 3, 5, 8, 8, 12, 16, 24, 32]) };
         let mut lengths = [slots; 8];
         for length in lengths.iter_mut() {
             *length += if self.rarely(2) { self.below(3) } else { 0 };
         }
         lengths[0] = slots * block + self.below(2 * block);
         lengths[6] = slots * block + self.below(block);
+        lengths[5] = match self.below(8) {
+            // More words than slots need, to all that the program holds.
+            0 | 1 => slots.div_ceil(MARKS) + self.below(3),
+            2 => 64,
+            // Fewer: the words say how many slots there is room for.
+            3 if many => slots / MARKS,
+            _ => slots.div_ceil(MARKS),
+        };
         if self.rarely(25) {
             lengths[self.below(8)] = 0;
         }
@@ -464,10 +522,13 @@ impl<W: Write> Script<W> {
         if self.rarely(3) {
             return self.poke_field();
         }
-        let (name, array) = ARRAYS[self.pick(&[2, 3, 4, 5])];
+        let (name, array) = ARRAYS[self.pick(&[2, 3, 4, 5, 5])];
         let length = self.driver.arrays.length(array);
         if length == 0 {
             return;
+        }
+        if array == Array::Alive {
+            return self.poke_marks();
         }
         let in_use = self.driver.record.n.clamp(1, length);
         let at = if self.rarely(6) { self.below(length) } else { self.below(in_use) };
@@ -485,6 +546,32 @@ impl<W: Write> Script<W> {
             return self.start();
         }
         self.line(format!("set {name} {at:x} {old:x}"));
+        self.made_sound();
+    }
+
+    /// Live marks: 13 for a bit at or above the slots in use, a wrong live count, a key on a dead slot. A reading clears them.
+    fn poke_marks(&mut self) {
+        let Some((at, old)) = self.stray() else {
+            return;
+        };
+        if self.rarely(4) {
+            // The live count is that of all bits.
+            let live: u32 = self.driver.arrays.alive.iter().map(|word| word.count_ones()).sum();
+            self.line(format!("field live {live:x}"));
+        }
+        for _ in 0..1 + self.below(4) {
+            self.plain();
+        }
+        self.call("dump".to_string());
+        if self.rarely(10) || at >= self.driver.arrays.alive.len() {
+            return self.start();
+        }
+        self.line(format!("set alive {at:x} {old:x}"));
+        if fits(&self.driver.record, &self.driver.arrays) {
+            return;
+        }
+        let live: u32 = self.driver.arrays.alive.iter().map(|word| word.count_ones()).sum();
+        self.line(format!("field live {live:x}"));
         self.made_sound();
     }
 
@@ -567,7 +654,8 @@ impl<W: Write> Script<W> {
         let in_codes = if matches!(version, 1 | 257) || working == 0 { dim } else { working };
         let block = block_size(in_codes, width);
         let room = self.driver.arrays.capacity(block, version == 260);
-        let count = if self.rarely(10) { room + 1 } else { self.below(room.min(12) + 1) };
+        let most = if self.rarely(10) { room.min(140) } else { room.min(12) };
+        let count = if self.rarely(10) { room + 1 } else { self.below(most + 1) };
         let mut file = b"VECQ".to_vec();
         file.extend(version.to_le_bytes());
         file.extend((working as u16).to_le_bytes());

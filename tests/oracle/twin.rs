@@ -19,7 +19,7 @@ pub fn index_of(record: &Record, arrays: &Arrays) -> VecqIndex {
         index.codes2 = arrays.codes2[..bytes].to_vec();
         index.scales2 = floats(&arrays.scales2[..n]);
     }
-    index.alive = arrays.alive[..n].iter().map(|&mark| mark == 1).collect();
+    index.alive = (0..n).map(|slot| arrays.mark(slot)).collect();
     index.keys = (0..n).map(|slot| arrays.keyed[slot].then_some(arrays.keys[slot])).collect();
     let mut lists: HashMap<u64, Vec<usize>> = HashMap::new();
     for slot in (0..n).filter(|&slot| arrays.keyed[slot]) {
@@ -85,7 +85,7 @@ pub fn record_of(index: &VecqIndex) -> Record {
     }
 }
 
-/// Lays the Rust's slots over the first places. The word that `keys` has where there is no key stays.
+/// Lays the Rust's slots over the first places, and their marks over all bits. The word that `keys` has where there is no key stays.
 pub fn lay_over(index: &VecqIndex, arrays: &mut Arrays) {
     let patterns = |floats: &[f32]| -> Vec<u32> { floats.iter().map(|x| x.to_bits()).collect() };
     over(&index.codes, &mut arrays.codes);
@@ -94,8 +94,8 @@ pub fn lay_over(index: &VecqIndex, arrays: &mut Arrays) {
         over(&index.codes2, &mut arrays.codes2);
         over(&patterns(&index.scales2), &mut arrays.scales2);
     }
+    arrays.set_marks(&index.alive);
     for slot in 0..index.n {
-        arrays.alive[slot] = index.alive[slot] as u8;
         arrays.keyed[slot] = index.keys[slot].is_some();
         arrays.held[slot] = 0;
         if let Some(key) = index.keys[slot] {

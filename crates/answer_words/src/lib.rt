@@ -4,7 +4,9 @@
 
 ghost use Rattle.std.specs.Prelude.{◌≡◌, [], ◌∷◌, ◌≤◌, length};
 ghost use Rattle.lists.specs.Lists.{over};
+ghost use Rattle.refusal.specs.Refusal.{fault_of};
 ghost use Rattle.index.specs.Verdict.{verdict};
+ghost use Rattle.index.specs.Step.{first_of};
 ghost use Rattle.words.specs.Words.{record_words, words_of};
 ghost use Rattle.words.specs.Put.{put, put_words, put_count, put_made, put_both, put_next, put_added, put_changed};
 
@@ -55,6 +57,17 @@ pub fn put_count(counted: Result<usize, Refusal>, answer: &mut [u64]) -> u8
 {
     match counted {
         Ok(count) => put_word(count as u64, answer),
+        Err(refusal) => u8::from(refusal),
+    }
+}
+
+// The refusal of making and reading where the record has no place: their own tests come first.
+#[tactic(auto, unfolding(index::specs::Step::first_of))]
+pub fn without_place(check: Result<(), Refusal>) -> u8
+    ensures { result ≡ first_of (fault_of check ∷ 13 ∷ []) }
+{
+    match check {
+        Ok(()) => 13,
         Err(refusal) => u8::from(refusal),
     }
 }

@@ -16,7 +16,7 @@ use Rattle.index.specs.Step.{Query, Cell, key_of_mark, Hit, hit_of, rank, by_slo
 use Rattle.index.proofs.Questions.{any-map}
 use Rattle.lists.specs.Lists.{below}
 use Rattle.held.proofs.Live.{cell_at}
-use Rattle.scan.specs.Scan.{takes_part}
+use Rattle.marks.specs.Live.{live_at}
 use Rattle.hits.specs.Hits.{score_at, scored_slots, chosen}
 
 -- the score of each slot by the arrays
@@ -25,7 +25,7 @@ scores h a q = score_at h a.codes a.scales a.codes2 a.scales2 q
 
 -- the marked slots as the step has them
 abbrev pub cells : Header → Arrays → (marks : List ℕ) → (n : ℕ) → List Cell
-cells h a marks n = map (cell_at (slot_at h a) n) (keep (takes_part marks) (below n))
+cells h a marks n = map (cell_at (slot_at h a) n) (keep (live_at marks) (below n))
 
 -- a listed slot as the step has it
 abbrev pub hit : Header → Arrays → ℕ × Float → Hit
@@ -38,8 +38,8 @@ module _ (h : Header) (a : Arrays) (q : Query) (marks : List ℕ) (n : ℕ) wher
   pub hits-entered : hits_of h q (cells h a marks n) ≡ map (hit h a) (scored_slots (scores h a q) marks n)
   unfolding scored_slots score_at slot_at
   hits-entered =
-      map-map (hit_of h q) (cell_at (slot_at h a) n) (keep (takes_part marks) (below n))
-      ∙ sym (map-map (hit h a) (λ (i : ℕ). (i, scores h a q i)) (keep (takes_part marks) (below n)))
+      map-map (hit_of h q) (cell_at (slot_at h a) n) (keep (live_at marks) (below n))
+      ∙ sym (map-map (hit h a) (λ (i : ℕ). (i, scores h a q i)) (keep (live_at marks) (below n)))
 
   pub hits-nan : any (λ x. is_nan x.score) (hits_of h q (cells h a marks n)) ≡ any (λ e. is_nan e.1) (scored_slots (scores h a q) marks n)
   hits-nan = ap (any (λ x. is_nan x.score)) hits-entered ∙ any-map (λ x. is_nan x.score) (hit h a) (scored_slots (scores h a q) marks n)
@@ -56,5 +56,5 @@ module _ (h : Header) (a : Arrays) (q : Query) (marks : List ℕ) (n : ℕ) wher
     unfolding scored_slots
     chosen-low =
         choose-each (λ (e : ℕ × Float). order_number e.1) k (scored_slots (scores h a q) marks n) (λ (e : ℕ × Float). e.0 < n)
-        (each_map (λ (e : ℕ × Float). e.0 < n) (λ (i : ℕ). (i, scores h a q i)) (keep (takes_part marks) (below n))
-        (each_keep (λ i. i < n) (takes_part marks) (below n) (each-tab (λ i. i < n) (λ i. i) n (λ i l. l))))
+        (each_map (λ (e : ℕ × Float). e.0 < n) (λ (i : ℕ). (i, scores h a q i)) (keep (live_at marks) (below n))
+        (each_keep (λ i. i < n) (live_at marks) (below n) (each-tab (λ i. i < n) (λ i. i) n (λ i l. l))))

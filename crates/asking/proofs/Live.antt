@@ -16,11 +16,11 @@ use Rattle.index.proofs.Fits.{record-self}
 use Rattle.index.proofs.Marks.{mark-live}
 use Rattle.lists.specs.Lists.{below}
 use Rattle.held.proofs.Live.{cell_at, live-tab}
-use Rattle.scan.specs.Scan.{takes_part}
+use Rattle.marks.specs.Live.{live_at}
 use Rattle.asking.proofs.Cells.{cells}
 
 module _ (x : Index) (a : Arrays) where
-  slot-live : (i : ℕ) → live (slot_at (header_of x) a i) ≡ takes_part a.alive i
+  slot-live : (i : ℕ) → live (slot_at (header_of x) a i) ≡ live_at a.alive i
   unfolding slot_at
   slot-live i = mark-live (get_or a.alive i 0) (get_or a.keyed i false) (get_or a.keys i 0) (get_or a.held i 0)
 

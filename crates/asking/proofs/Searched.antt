@@ -27,7 +27,7 @@ use Rattle.fit.proofs.Meaning.{meaning}
 use Rattle.fit.proofs.Rooms.{enough}
 use Rattle.lists.specs.Lists.{below}
 use Rattle.held.proofs.Live.{cell_at}
-use Rattle.scan.specs.Scan.{takes_part}
+use Rattle.marks.specs.Live.{live_at}
 use Rattle.hits.specs.Hits.{scored_slots, chosen}
 use Rattle.asking.specs.Faults.{places_fault, search_fault}
 use Rattle.asking.proofs.Cells.{scores, cells, hit, hits-chosen}
@@ -53,7 +53,7 @@ shown_by x a q k show n = unless n (show (map (hit (header_of x) a) (live_chosen
 module _ (x : Index) (a : Arrays) (q : Query) (k places : ℕ) where
   -- the slots that are marked as live
   abbrev numbers : List ℕ
-  numbers = keep (takes_part a.alive) (below x.n)
+  numbers = keep (live_at a.alive) (below x.n)
 
   abbrev query_number : ℕ
   query_number = fault (header_of x) q.vector
@@ -126,8 +126,8 @@ module _ (x : Index) (a : Arrays) (q : Query) (k places : ℕ) where
           arith,
           chosen-length searched-fits,
           many-numbers searched-fits,
-          length-keep (takes_part a.alive) (below x.n),
-          count-length (takes_part a.alive) (below x.n),
+          length-keep (live_at a.alive) (below x.n),
+          count-length (live_at a.alive) (below x.n),
           length-tab (λ i. i) x.n,
           (enough (header_of x) a x.n ((meaning x a).yes searched-fits).room).few,
         )

@@ -12,7 +12,8 @@ use Rattle.digits.proofs.Places.{div_parts, mod-mul-parts, div-pow-add, pow-mul,
 use Rattle.digits.proofs.Below.{below-drop}
 use Rattle.digits.proofs.Number.{number_lt, number-take, number-drop, digit-number}
 use Rattle.digits.proofs.Digits.{length_digits, get_or-digits, below-digits, number_digits, digits-parts, digits_number}
-use Rattle.codes.specs.Packing.{bytes_per_vector, code_at, unpacked, spare, spare_width, packed, bit_of, block_bit}
+use Rattle.codes.specs.Packing.{bytes_per_vector, code_at, unpacked, spare, spare_width, packed, block_bit}
+use Rattle.digits.specs.Digits.{bit_of}
 
 -- the bytes hold the codes, and fewer than 8 bits more
 pub codes-in-bytes : (w p : ℕ) → (w * p ≤ 8 * bytes_per_vector w p) × (8 * bytes_per_vector w p < w * p + 8)

@@ -4,7 +4,7 @@
 --   6 bits, codes 1, 2, 3, 4     000100 000011 000010 000001     the number, its highest bit first
 --   bytes 81 30 10               00010000 00110000 10000001
 use Rattle.std.specs.Prelude.{List, ℕ, ◌+◌, ◌-◌, ◌*◌, ◌/◌, ◌%◌, ◌^◌, length, get_or}
-use Rattle.digits.specs.Digits.{number, digits}
+use Rattle.digits.specs.Digits.{number, digits, bit_of}
 
 -- "Bytes per vector: padded times width, over 8, rounded up."
 unfoldable pub bytes_per_vector : ℕ → ℕ → ℕ
@@ -30,9 +30,6 @@ spare_width w p = 8 * bytes_per_vector w p - w * p
 unfoldable pub packed : ℕ → List ℕ → ℕ → List ℕ
 packed w codes spares = digits 256 (bytes_per_vector w (length codes)) (number (2 ^ w) codes + 2 ^ (w * length codes) * spares)
 
--- The same layout by single bits, for the law `code-bit`: bit n of a number, and bit n of a block, which is bit n modulo 8 of byte n / 8.
-abbrev pub bit_of : ℕ → ℕ → ℕ
-bit_of v n = v / 2 ^ n % 2
-
+-- The same layout by single bits, for the law `code-bit`: bit n of a block, which is bit n modulo 8 of byte n / 8.
 abbrev pub block_bit : List ℕ → ℕ → ℕ
 block_bit block n = bit_of (get_or block (n / 8) 0) (n % 8)

@@ -15,7 +15,7 @@ use Rattle.encode.specs.declared.Header.{Header}
 use Rattle.encode.specs.Header.{block_size}
 use Rattle.codes.specs.Stage.{Stage}
 use Rattle.index.specs.declared.Index.{Index}
-use Rattle.index.specs.Arrays.{Arrays}
+use Rattle.index.specs.Arrays.{Arrays, unmarked}
 use Rattle.index.specs.State.{Slot, live, header_of, capacity, stage_at, slot_at, state_of, record_of, alive_of, has_key, key_word, position, seconds, scales_of, blocks_of, overlay, with_counts}
 use Rattle.index.specs.Fit.{fit}
 use Rattle.index.specs.Step.{rising, compacted, with_slots, step, compact, done}
@@ -33,6 +33,7 @@ use Rattle.compact.specs.Gathered.{live_slots, gathered, gathered_blocks, Downwa
 use Rattle.compact.proofs.Gathering.{over-over}
 use Rattle.compact.proofs.Rising.{rising-map, rising-length, rising-positions}
 use Rattle.compact.proofs.Kept.{few-kept, numbers-down, gathered-kept, blocks-kept, kept_slots, kept-length, kept_map, kept-words, kept-keyed, kept-alive, none-dead}
+use Rattle.marks.specs.Live.{no_marks}
 
 module _ (h : Header) (a : Arrays) (n : ℕ) (space : n ≤ capacity h a) (old : List ℕ) (places : n ≤ length old) where
   abbrev nums : List ℕ
@@ -113,9 +114,9 @@ module _ (h : Header) (a : Arrays) (n : ℕ) (space : n ≤ capacity h a) (old :
       (λ i d l. ap (λ (xs : List Bool). get_or xs i false) keyed-marks ∙ get_or-over-map (λ (s : Slot). has_key s.mark) ts a.keyed i d false l)
       ∙ ap (tab (rising_position (gathered from kept 0 a.keys) (gathered from kept false a.keyed))) (kept-length h a n)))
 
-  alive-marks : over (tab (λ i. 1) kept) a.alive ≡ over (map (λ s. alive_of s.mark) rs) a.alive
+  alive-marks : over (tab (λ i. 1) kept) (no_marks a.alive) ≡ over (map (λ s. alive_of s.mark) rs) (no_marks a.alive)
   alive-marks =
-      ap (λ (ys : List ℕ). over ys a.alive)
+      ap (λ (ys : List ℕ). over ys (no_marks a.alive))
       (tab-map (λ i. 1) (λ i. 1) nums (λ i d l. refl) ∙ sym (rising-map (λ s. alive_of s.mark) (λ k p q c. refl) (λ k. 0) ts ∙ kept-alive h a n))
 
   -- ---- all arrays
@@ -128,12 +129,12 @@ module _ (h : Header) (a : Arrays) (n : ℕ) (space : n ≤ capacity h a) (old :
         keys = gathered from kept 0 a.keys;
         keyed = gathered from kept false a.keyed;
         held = over (tab (rising_position (gathered from kept 0 a.keys) (gathered from kept false a.keyed)) kept) a.held;
-        alive = over (tab (λ i. 1) kept) a.alive;
+        alive = over (tab (λ i. 1) kept) (no_marks a.alive);
         codes2 = gathered_blocks from (cond h.residual kept 0) (block_size h) a.codes2;
         scales2 = gathered from (cond h.residual kept 0) 0 a.scales2;
       }
 
-  pub compacted-arrays : closed_up ≡ overlay a (compacted (tab (slot_at h a) n))
+  pub compacted-arrays : closed_up ≡ overlay (unmarked a) (compacted (tab (slot_at h a) n))
   unfolding overlay compacted
   compacted-arrays =
       λ j. record {
@@ -160,7 +161,7 @@ pub record ClosedUp (x : Index) (a b : Arrays) (slots : List ℕ) (n size second
   pub keys : b.keys ≡ gathered slots n 0 a.keys
   pub keyed : b.keyed ≡ gathered slots n false a.keyed
   pub held : b.held ≡ over (tab (rising_position b.keys b.keyed) n) slots
-  pub alive : b.alive ≡ over (tab (λ i. 1) n) a.alive
+  pub alive : b.alive ≡ over (tab (λ i. 1) n) (no_marks a.alive)
   pub codes2 : b.codes2 ≡ gathered_blocks slots second size a.codes2
   pub scales2 : b.scales2 ≡ gathered slots second 0 a.scales2
 
@@ -200,7 +201,7 @@ module _ (x : Index) (a : Arrays) (e : fit x a ≡ true) where
         go true r = (down (length a.codes2 / block_size (header_of x)) (room.codes2 r), down (length a.scales2) (room.scales2 r))
         go false r = (none (length a.codes2 / block_size (header_of x)), none (length a.scales2))
 
-  pub closed-up : (b : Arrays) (slots : List ℕ) (n size second : ℕ) → ClosedUp x a b slots n size second → b ≡ overlay a (compacted (state_of x a).slots)
+  pub closed-up : (b : Arrays) (slots : List ℕ) (n size second : ℕ) → ClosedUp x a b slots n size second → b ≡ overlay (unmarked a) (compacted (state_of x a).slots)
   unfolding state_of
   closed-up b slots n size second c =
       (λ j. record {
@@ -251,6 +252,6 @@ module _ (x : Index) (a : Arrays) where
 
   -- ---- the call
 
-  pub compacted-call : fit x a ≡ true → (y : Index) (b : Arrays) → y ≡ with_kept x number → b ≡ overlay a (compacted (state_of x a).slots) → result_of y b done ≡ call x a compact
+  pub compacted-call : fit x a ≡ true → (y : Index) (b : Arrays) → y ≡ with_kept x number → b ≡ overlay (unmarked a) (compacted (state_of x a).slots) → result_of y b done ≡ call x a compact
   unfolding step state_of
   compacted-call e y b r s = (λ j. record { index = (r ∙ compacted-record) j; arrays = s j; answer = done }) ∙ sym (call_fits x a compact e)

@@ -10,9 +10,9 @@ use lib.Seq.{get_or_at}
 use lib.Dec.{ltb, leb}
 use borrow.Author.Tests.{ltb-true, le-leb, lt-leb}
 use Rattle.lists.specs.Lists.{tab, over, joined, below}
-use Rattle.lists.specs.Keep.{bit, keep, count, Each, any}
+use Rattle.lists.specs.Keep.{bit, keep, count, any}
 use Rattle.lists.proofs.Laws.{length-tab, length_over, get_d_default}
-use Rattle.lists.proofs.Keep.{keep_append, keep-map, length-keep, count-length, each-kept}
+use Rattle.lists.proofs.Keep.{keep_append, keep-map, length-keep, count-length, each-kept, map_same}
 use Rattle.lists.proofs.Front.{get_d_front, map-tab, tab-map}
 use Rattle.encode.specs.declared.Header.{Header}
 use Rattle.codes.specs.Slots.{block_at}
@@ -100,10 +100,6 @@ mark-alive : (l : ℕ) (on : Bool) (k p : ℕ) → ltb 0 l ≡ true → alive_of
 mark-alive zero on k p e = absurd (omega (arith, ltb-true 0 0 e))
 mark-alive (suc l) true k p e = refl
 mark-alive (suc l) false k p e = refl
-
-map_same : {A B : Type 0} (f g : A → B) (xs : List A) → Each (λ x. f x ≡ g x) xs → map f xs ≡ map g xs
-map_same f g [] h = refl
-map_same f g (x ∷ xs) h = rw (h.0, map_same f g xs h.1)
 
 module _ (h : Header) (a : Arrays) (n : ℕ) where
   abbrev nums : List ℕ

@@ -5,6 +5,7 @@
 
 ghost use Rattle.std.specs.Prelude.{◌≡◌, true, false, cond, ◌/◌, ◌≤◌, length};
 ghost use Rattle.lists.specs.Lists.{tab, over};
+ghost use Rattle.marks.specs.Live.{marks_in, no_marks};
 ghost use Rattle.index.specs.Arrays.{lent};
 ghost use Rattle.index.specs.Lent.{contents_mut, SameLent};
 ghost use Rattle.index.specs.Fit.{fit};
@@ -22,10 +23,10 @@ use refusal::Refusal;
 
 // Writes the numbers of the live slots, in slot order, and returns how many there are. By index: it is what is written, and what `is_live` is asked of;
 // past the end of `alive` a slot is dead.
-fn live_slots(alive: &[u8], n: usize, slots: &mut [u32]) -> usize
+fn live_slots(alive: &[u64], n: usize, slots: &mut [u32]) -> usize
     requires { (n ≤ length slots.old) × (n ≤ 65536) }
-    ensures value { result ≡ length (live_slots alive.now n) }
-    ensures slots_after { slots.new ≡ over (live_slots alive.now n) slots.old }
+    ensures value { result ≡ length (live_slots (marks_in alive.now) n) }
+    ensures slots_after { slots.new ≡ over (live_slots (marks_in alive.now) n) slots.old }
 {
     let mut many = 0;
     for i in 0..n {
@@ -73,13 +74,13 @@ fn gather_stage(codes: &mut [u8], scales: &mut [u32], size: usize, slots: &[u32]
 // ---- keys and marks
 
 // The keys of the slots that `held` lists move down, held order rises in their stead, and all slots that are kept are live.
-fn gather_marks(keys: &mut [u64], keyed: &mut [bool], held: &mut [u32], alive: &mut [u8], n: usize)
+fn gather_marks(keys: &mut [u64], keyed: &mut [bool], held: &mut [u32], alive: &mut [u64], n: usize)
     requires downward { Downward held.old n (length keys.old) × Downward held.old n (length keyed.old) }
-    requires n_in_bounds { (n ≤ length alive.old) × (n ≤ 65536) }
+    requires n_in_bounds { (n ≤ length (marks_in alive.old)) × (n ≤ 65536) }
     ensures keys_after { keys.new ≡ gathered held.old n 0 keys.old }
     ensures keyed_after { keyed.new ≡ gathered held.old n false keyed.old }
     ensures held_after { held.new ≡ over (tab (rising_position keys.new keyed.new) n) held.old }
-    ensures alive_after { alive.new ≡ over (tab (λ _. 1) n) alive.old }
+    ensures alive_after { marks_in alive.new ≡ over (tab (λ _. 1) n) (no_marks (marks_in alive.old)) }
 {
     gather(keys, held, n);
     gather(keyed, held, n);
@@ -119,7 +120,7 @@ fn close_up(
     keys: &mut [u64],
     keyed: &mut [bool],
     held: &mut [u32],
-    alive: &mut [u8],
+    alive: &mut [u64],
     codes2: &mut [u8],
     scales2: &mut [u32],
 ) -> Index

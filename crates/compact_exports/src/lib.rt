@@ -16,7 +16,7 @@ pub extern "C" fn vecq_raw_compact(
     keys: &mut [u64],
     keyed: &mut [bool],
     held: &mut [u32],
-    alive: &mut [u8],
+    alive: &mut [u64],
     codes2: &mut [u8],
     scales2: &mut [u32],
 ) -> u8

@@ -2,7 +2,7 @@
 // Numbers are hexadecimal; a vector is the binary32 patterns of its entries, eight digits each, run together, and `-` where it has none.
 //
 //   lend CODES SCALES KEYS KEYED HELD ALIVE CODES2 SCALES2   arrays of these lengths, each element 0
-//   set ARRAY I V, field NAME V                              an element of an array, a field of the record
+//   set ARRAY I V, field NAME V                              an element of an array, a field of the record; an element of `alive` has 64 marks
 //   new DIM SEED, working DIM WORKING SEED, residual DIM SEED, bits W, enable, compact
 //   add VEC, add_keyed KEY VEC, add_multi KEY VEC
 //   relabel OLD NEW, remove KEY, remove_at KEY SLOT
@@ -114,7 +114,7 @@ fn answer_with_fresh<R: Read>(
     let mut keys = [0u64; 4096];
     let mut keyed = [false; 4096];
     let mut held = [0u32; 4096];
-    let mut alive = [0u8; 4096];
+    let mut alive = [0u64; 64];
     let mut codes2 = code_bytes();
     let mut scales2 = [0u32; 4096];
     let lent = state.lent;
@@ -123,7 +123,7 @@ fn answer_with_fresh<R: Read>(
     let c = lent.keys.min(4096);
     let d = lent.keyed.min(4096);
     let e = lent.held.min(4096);
-    let f = lent.alive.min(4096);
+    let f = lent.alive.min(64);
     let g = lent.codes2.min(1048576);
     let h = lent.scales2.min(4096);
     let mut arrays = LentMut {
@@ -545,7 +545,7 @@ fn lengths_of(line: &[u8]) -> Option<Lengths> {
         keys: length_at(line, 3, 4096)?,
         keyed: length_at(line, 4, 4096)?,
         held: length_at(line, 5, 4096)?,
-        alive: length_at(line, 6, 4096)?,
+        alive: length_at(line, 6, 64)?,
         codes2: length_at(line, 7, 1048576)?,
         scales2: length_at(line, 8, 4096)?,
     })
@@ -578,6 +578,16 @@ fn change(call: Call, vector: &[f32], file: &[u8], arrays: &mut LentMut<'_>, ind
             numbers.a as usize,
             numbers.b,
         )),
+        Command::New => Done::Record(make::new(numbers.a as usize, numbers.b, arrays)),
+        Command::Working => Done::Record(make::with_working_dim(
+            numbers.a as usize,
+            numbers.b as usize,
+            numbers.c,
+            arrays,
+        )),
+        Command::Residual => {
+            Done::Record(make::with_residual(numbers.a as usize, numbers.b, arrays))
+        }
         Command::Compact => Done::Record(compact::compact(index, arrays)),
         Command::Relabel | Command::Remove | Command::RemoveAt => change_marks(
             call,
@@ -610,7 +620,7 @@ fn change_marks(
     keys: &mut [u64],
     keyed: &mut [bool],
     held: &mut [u32],
-    alive: &mut [u8],
+    alive: &mut [u64],
     codes2: &mut [u8],
     scales2: &mut [u32],
     index: Index,
@@ -724,17 +734,6 @@ fn answer(
 fn ask(call: Call, done: Done, vector: &[f32], arrays: &Lent<'_>, index: Index) -> Outcome {
     let numbers = call.numbers;
     match call.command {
-        Command::New => after_made(make::new(numbers.a as usize, numbers.b, arrays), index),
-        Command::Working => after_made(
-            make::with_working_dim(numbers.a as usize, numbers.b as usize, numbers.c, arrays),
-            index,
-        ),
-        Command::Residual => {
-            after_made(
-                make::with_residual(numbers.a as usize, numbers.b, arrays),
-                index,
-            )
-        }
         Command::Bits => after_made(
             settings::set_bits(index, arrays, low_byte(numbers.a)),
             index,

@@ -1,4 +1,5 @@
--- What 13's test means, clause by clause of document 01's sentence. That `fit` passes just where all of this holds is the law `meaning` of proofs/Meaning.antt.
+-- What 13's test means, clause by clause of document 01's sentence and of 02's change of it. That `fit` passes just where all of this holds is the law
+-- `meaning` of proofs/Meaning.antt.
 use Rattle.std.specs.Prelude.{◌≡◌, Bool, true, false, List, ℕ, ◌/◌, ◌≤◌, ◌<◌, length, get_or, eqb}
 use Rattle.lists.specs.Lists.{tab}
 use Rattle.lists.specs.Keep.{count}
@@ -19,22 +20,23 @@ pub record Fields (x : Index) : Type 0 where
   pub bits-high : x.bits ≤ 6
   pub residual : x.residual ≡ true → x.bits ≡ 4
 
--- of one slot: "a live mark other than 0 or 1", "a key on a dead slot"
-pub record Marked (on : Bool) (mark : ℕ) : Type 0 where
-  pub low : mark ≤ 1
-  pub live : on ≡ true → mark ≡ 1
+-- "a key on a dead slot": each of the first n slots that has a key is live
+abbrev pub KeyedLive : (keyed : List Bool) (alive : List ℕ) (n : ℕ) → Type 0
+KeyedLive keyed alive n = (i : ℕ) → i < n → get_or keyed i false ≡ true → get_or alive i 0 ≡ 1
 
--- that of each of the first n slots
-abbrev pub EachMarked : (keyed : List Bool) (alive : List ℕ) (n : ℕ) → Type 0
-EachMarked keyed alive n = (i : ℕ) → i < n → Marked (get_or keyed i false) (get_or alive i 0)
+-- document 02, Req 02, "a bit set there": no mark is set at or above the first n slots
+abbrev pub NoneFrom : (n : ℕ) (alive : List ℕ) → Type 0
+NoneFrom n alive = (i : ℕ) → n ≤ i → get_or alive i 0 ≡ 0
 
 -- how many of the first n slots are live
 abbrev pub live_marks : List ℕ → ℕ → ℕ
 live_marks alive n = count (λ m. eqb m 1) (tab (λ i. get_or alive i 0) n)
 
--- that of each slot in use, and "a wrong live count"
+-- that of the slots in use, and "a wrong live count". `low` says that a mark is 0 or 1, which a bit is: it holds of all lent arrays (law `lent-low`).
 pub record Marks (keyed : List Bool) (alive : List ℕ) (n live : ℕ) : Type 0 where
-  pub slot : EachMarked keyed alive n
+  pub low : (i : ℕ) → i < n → get_or alive i 0 ≤ 1
+  pub clear : NoneFrom n alive
+  pub slot : KeyedLive keyed alive n
   pub count : live ≡ live_marks alive n
 
 abbrev pub keys_in : Arrays → Keys

@@ -10,12 +10,12 @@ use lib.ListN.{length, get_or, take, get_or-eq_default}
 use lib.Seq.{get_or-take}
 use Rattle.std.specs.Prelude.{find, unwrap_or, Some}
 use Rattle.std.specs.List.{range_with_len}
-use Rattle.std.proofs.lemmas.List.FromFn.{length-range_with_len, get_or-range_with_len}
 use Rattle.lists.specs.Lists.{below}
 use Rattle.lists.specs.Keep.{bit, keep, count}
 use Rattle.lists.proofs.Laws.{length-tab}
 use Rattle.lists.proofs.Keep.{count-append, count-length, count_same, keep_same}
-use Rattle.lists.proofs.Front.{each-tab, tab-is, keep-past, count_past}
+use Rattle.lists.proofs.Front.{each-tab, keep-past, count_past}
+use Rattle.lists.proofs.Ranges.{range-below}
 use Rattle.slot_keys.specs.Has.{slot_has}
 use Rattle.held.specs.Held.{held_count, slot_holds, held_slot}
 
@@ -29,11 +29,6 @@ module _ {X : Type 0} (p : X → Bool) where
       go : (b : Bool) → unwrap_or (find p xs) d ≡ get_or (keep p xs) 0 d → unwrap_or (cond b (Some x) (find p xs)) d ≡ get_or (cond b (x ∷ keep p xs) (keep p xs)) 0 d
       go true e = refl
       go false e = e
-
-pub range-below : (n : ℕ) → range_with_len 0 n ≡ below n
-range-below n =
-    sym (tab-is (λ i. i) (range_with_len 0 n) (λ i d l. omega (arith, get_or-range_with_len 0 n i d (rw (length-range_with_len 0 n) at l))))
-    ∙ ap below (length-range_with_len 0 n)
 
 module _ (p : ℕ → Bool) (n : ℕ) where
   find-below : (d : ℕ) → unwrap_or (find p (range_with_len 0 n)) d ≡ get_or (keep p (below n)) 0 d

@@ -12,7 +12,7 @@ use Rattle.index.specs.Arrays.{Arrays}
 use Rattle.index.specs.State.{Slot, record_of, live}
 use Rattle.index.specs.Step.{Answer}
 use Rattle.index.specs.History.{HistoryOp}
-use Rattle.index.proofs.Fits.{record-self}
+use Rattle.index.proofs.Fits.{fitting, record-self}
 use Rattle.histories.specs.Histories.{History, Told, says, Run, Moment, after, accepts, accepted, answer, struck, others, Start, begin, Legal, SameAnswers, Faithful, AlwaysFaithful, AlwaysRead, AlwaysAnswersKeys, AlwaysAnswersAdds, AlwaysAnswersScores, AlwaysFiles, LeaveAlike, Paired, SameLeft, PartsFull, PartAtRoomOnly, is_append, slots_of, live_by}
 use Rattle.histories.specs.Houses.{FiledAlike}
 use Rattle.histories.proofs.Cells.{cells-slots}
@@ -134,6 +134,7 @@ good-faithful : (r : Run) → Good r → Faithful r
 good-faithful r g =
     record {
       fits = g.fits;
+      clear = (fitting r.index r.arrays g.fits).clear;
       header = g.header;
       in_use = g.tracks.places ∙ slots-in-use r.index r.arrays;
       numbers = live-numbers g.tracks;

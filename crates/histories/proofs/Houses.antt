@@ -11,14 +11,15 @@ use borrow.Author.Tests.{le-ltb}
 use Rattle.lists.specs.Keep.{bit}
 use Rattle.encode.specs.Coded.{fault, no_spare}
 use Rattle.index.specs.declared.Index.{Index}
-use Rattle.index.specs.Arrays.{Arrays}
-use Rattle.index.specs.State.{Mark, unkeyed, keyed, State, header_of, capacity, state_of, new_slot}
+use Rattle.index.specs.Verdict.{Verdict}
+use Rattle.index.specs.Arrays.{Arrays, unmarked}
+use Rattle.index.specs.State.{Mark, unkeyed, keyed, State, header_of, capacity, state_of, new_slot, record_of, overlay}
 use Rattle.index.specs.Codec.{encoded}
 use Rattle.index.specs.Fit.{fit}
 use Rattle.index.specs.Step.{live_from, held_by, Op, set_bits, add, add_keyed, add_multi, relabel, remove, remove_at, key_of, contains, slot_of, enable, score, search, search_keyed, search_cascade, compact, file_length, write, Item, Answer, slot, first_of, when, Outcome, with_slots, guarded, appended, slot_holding, step}
 use Rattle.index.specs.Call.{Result, call}
-use Rattle.index.specs.Make.{Begun}
-use Rattle.index.specs.Read.{count_in, header_in, state_in, read_refusal, read_unless, read_into}
+use Rattle.index.specs.Make.{Begun, begun_unless}
+use Rattle.index.specs.Read.{count_in, header_in, state_in, read_refusal, read_into, slots_in}
 use Rattle.index.proofs.Kept.{fit-kept, call-state}
 use Rattle.index.proofs.Calls.{call_fits}
 use Rattle.index.proofs.Read.{read-value}
@@ -34,14 +35,18 @@ same-refusal : (file : List ℕ) (a b : Arrays) → count_in file ≤ capacity (
 unfolding read_refusal
 same-refusal file a b l m = rw (le-ltb (capacity (header_in file) a) (count_in file) l, le-ltb (capacity (header_in file) b) (count_in file) m)
 
+-- what reading answers, by its refusal
+abbrev answer_by : (file : List ℕ) → Arrays → (refusal : ℕ) → Verdict Index
+answer_by file a n = (begun_unless n (record_of (state_in file)) a (overlay (unmarked a) (slots_in file))).answer
+
 pub same-reading : SameReading
 unfolding read_into
 same-reading file a b l m = go (read_refusal file a) (read_refusal file b) (same-refusal file a b l m)
   where
-    go : (i j : ℕ) → i ≡ j → (read_unless i a file).answer ≡ (read_unless j b file).answer
-    go i j e = ap (λ (n : ℕ). (read_unless n a file).answer) e ∙ at j
+    go : (i j : ℕ) → i ≡ j → answer_by file a i ≡ answer_by file b j
+    go i j e = ap (answer_by file a) e ∙ at j
       where
-        at : (n : ℕ) → (read_unless n a file).answer ≡ (read_unless n b file).answer
+        at : (n : ℕ) → answer_by file a n ≡ answer_by file b n
         at zero = refl
         at (suc n) = refl
 

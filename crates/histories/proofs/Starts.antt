@@ -14,13 +14,13 @@ use Rattle.lists.proofs.Front.{map-tab, each-tab}
 use Rattle.encode.specs.declared.Header.{Header}
 use Rattle.index.specs.declared.Index.{Index}
 use Rattle.index.specs.Verdict.{granted}
-use Rattle.index.specs.Arrays.{Arrays}
+use Rattle.index.specs.Arrays.{Arrays, unmarked}
 use Rattle.index.specs.State.{Mark, dead, unkeyed, keyed, Slot, is_live, live, State, header_of, capacity, slot_at, state_of, record_of, overlay, seconds, with_mark}
 use Rattle.index.specs.Fit.{between, fit}
 use Rattle.index.specs.Step.{done, key_of_mark, live_from, one_more, set_bits, when, rising, width_set, guarded, Outcome, step}
 use Rattle.index.specs.Call.{Result, call}
 use Rattle.index.specs.Answers.{result_of}
-use Rattle.index.specs.Make.{Begun, begun, empty, make_refusal, make_unless, make}
+use Rattle.index.specs.Make.{Begun, begun, empty, begun_unless, make_refusal, make}
 use Rattle.index.specs.Sound.{Ranged, Sound}
 use Rattle.index.specs.Read.{count_in, key_from, entries_in, slot_in, slots_in, state_in, read_into}
 use Rattle.index.proofs.Fits.{sound-fit}
@@ -36,11 +36,12 @@ use Rattle.histories.proofs.Runs.{Good}
 
 -- ---- an accepted making
 
-make-accepted : (h : Header) (b : Arrays) (x : Index) (a : Arrays) → make h b ≡ begun (granted x) a → (make_refusal h b ≡ 0) × (record_of (empty h) ≡ x) × (b ≡ a)
+make-accepted : (h : Header) (b : Arrays) (x : Index) (a : Arrays) → make h b ≡ begun (granted x) a →
+    (make_refusal h b ≡ 0) × (record_of (empty h) ≡ x) × (unmarked b ≡ a)
 unfolding make
 make-accepted h b x a e = go (make_refusal h b) e
   where
-    go : (n : ℕ) → make_unless n h b ≡ begun (granted x) a → (n ≡ 0) × (record_of (empty h) ≡ x) × (b ≡ a)
+    go : (n : ℕ) → begun_unless n (record_of (empty h)) b (unmarked b) ≡ begun (granted x) a → (n ≡ 0) × (record_of (empty h) ≡ x) × (unmarked b ≡ a)
     go zero f = (refl, ap (λ (r : Begun). record_in x r.answer) f, ap (λ (r : Begun). r.arrays) f)
     go (suc n) f = absurd (omega (arith, ap (λ (r : Begun). is_made r.answer) f))
 
@@ -72,7 +73,7 @@ made-fit : (m : Making) (b : Arrays) (x : Index) (a : Arrays) → make (made_hea
 unfolding record_of
 made-fit m b x a e =
     let p = make-accepted (made_header m) b x a e in (
-      ap₂ fit (sym p.1) (sym p.2 ∙ sym (no-overlay b)) ∙ sound-fit (empty (made_header m)) b (empty-sound (made_header m) b (made-ranged m b p.0)),
+      ap₂ fit (sym p.1) (sym p.2 ∙ sym (no-overlay (unmarked b))) ∙ sound-fit (empty (made_header m)) b (empty-sound (made_header m) b (made-ranged m b p.0)),
       ap (λ (y : Index). y.n) (sym p.1),
     )
 

@@ -26,8 +26,9 @@ use Rattle.index.specs.Verdict.{Verdict, granted}
 use Rattle.index.specs.Arrays.{Arrays}
 use Rattle.index.specs.State.{Slot, live, header_of, state_of}
 use Rattle.index.specs.Codec.{encoded, score_of}
-use Rattle.index.specs.Fit.{fit}
+use Rattle.index.specs.Fit.{none_from, fit}
 use Rattle.index.specs.File.{file_of}
+pub use Rattle.index.specs.Step.{accepted}
 use Rattle.index.specs.Step.{Item, Query, Answer, refused, done, flag, slot, maybe_slot, maybe_key, score_is, hits, key_hits, size, bytes, Cell, live_from, key_of_mark, Hit, by_slot, by_key, rising, set_bits}
 use Rattle.index.specs.Call.{Result, call}
 use Rattle.index.specs.Ties.{alike}
@@ -179,19 +180,6 @@ read f (hits xs) = Option.map hits (hits_read f xs)
 read f (key_hits xs) = some (key_hits xs)
 read f (size n) = some (size n)
 read f (bytes bs) = some (bytes bs)
-
-abbrev pub accepted : Answer → Bool
-accepted (refused n) = false
-accepted done = true
-accepted (flag b) = true
-accepted (slot i) = true
-accepted (maybe_slot o) = true
-accepted (maybe_key o) = true
-accepted (score_is x) = true
-accepted (hits xs) = true
-accepted (key_hits xs) = true
-accepted (size n) = true
-accepted (bytes bs) = true
 
 -- ---- runs
 
@@ -393,6 +381,8 @@ slots_of r = (state_of r.index r.arrays).slots
 pub record Faithful (r : Run) : Type 0 where
   -- 13 never comes from the index: no call finds a misfit
   pub fits : fit r.index r.arrays ≡ true
+  -- 02, Req 02: no bit is set at or above the slots in use, in any lent word (a part of `fits`)
+  pub clear : none_from r.index.n r.arrays.alive ≡ true
   -- no call changes the header
   pub header : header_of r.index ≡ r.told.header
   -- the arrivals not already dead at the last compaction are those of the slots in use, and the number that is handed for a live arrival is its place among them

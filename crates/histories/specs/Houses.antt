@@ -5,11 +5,11 @@ use Rattle.index.specs.declared.Index.{Index}
 use Rattle.index.specs.Verdict.{granted}
 use Rattle.index.specs.Arrays.{Arrays}
 use Rattle.index.specs.State.{capacity}
-use Rattle.index.specs.Step.{Op, Answer}
+use Rattle.index.specs.Step.{Op, Answer, accepted}
 use Rattle.index.specs.Call.{call}
 use Rattle.index.specs.Make.{begun}
 use Rattle.index.specs.Read.{count_in, header_in, read_into}
-use Rattle.histories.specs.Histories.{History, Run, Moment, accepted, accepts, answer, LeaveAlike, Paired, others, struck, begin, Legal, PartsFull}
+use Rattle.histories.specs.Histories.{History, Run, Moment, accepts, answer, LeaveAlike, Paired, others, struck, begin, Legal, PartsFull}
 
 -- a house that has read the file: the arrays that it lent, and what the accepted reading handed back and left
 pub record House (file : List ℕ) : Type 0 where

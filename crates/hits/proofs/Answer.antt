@@ -18,14 +18,14 @@ use Rattle.lists.proofs.Laws.{length-tab}
 use Rattle.choose.proofs.Choice.{choose-length}
 use Rattle.score.specs.Order.{order_number}
 use Rattle.padding.specs.Rotatable.{rotatable}
-use Rattle.scan.specs.Scan.{takes_part}
+use Rattle.marks.specs.Live.{live_at}
 use Rattle.lists.proofs.Tests.{and_left, and_right}
 use Rattle.choose_slots.specs.Slots.{listed, listed_within}
-use Rattle.held.proofs.Scan.{range-below}
+use Rattle.lists.proofs.Ranges.{range-below}
 use Rattle.hits.specs.declared.Unlisted.TheVariants.{Nan, Unable}
 use Rattle.hits.specs.Hits.{Listed, chosen, shown, list_answer, ready}
 use Rattle.hits.specs.Steps.{score_entry, order_entry, any_nan, WritesHits, any_takes_part, count_answer, ListsHits}
-use Rattle.hits.proofs.Entering.{no_nan}
+use Rattle.hits.proofs.Entering.{any_nan_scored, no_nan}
 use Rattle.hits.proofs.Choosing.{picks, chosen-slots, chosen-scores, listed-picks, picks-scores}
 
 -- ---- what is ready
@@ -55,9 +55,9 @@ some-kept p (x ∷ xs) = go (p x) (some-kept p xs)
     go true e = sym (lt-ltb 0 (suc (length (keep p xs))) (omega arith))
     go false e = e
 
-pub any_marked : (marks : List ℕ) (n : ℕ) → list_any (takes_part marks) (range_with_len 0 n) ≡ any_takes_part marks n
+pub any_marked : (marks : List ℕ) (n : ℕ) → list_any (live_at marks) (range_with_len 0 n) ≡ any_takes_part marks n
 unfolding any_takes_part
-any_marked marks n = ap (list_any (takes_part marks)) (range-below n) ∙ some-kept (takes_part marks) (below n)
+any_marked marks n = ap (list_any (live_at marks)) (range-below n) ∙ some-kept (live_at marks) (below n)
 
 -- ---- the answer by the count
 
@@ -84,12 +84,12 @@ module _ (score : ℕ → Float) (marks : List ℕ) (n k : ℕ) (slots : List �
   pub when-ready : (ok : Bool) → ok ≡ true → (r : Listed) (next : List ℕ) (after : List Float) → ListsHits score marks n k slots next scores after r → Answers ok r next after
   when-ready ok e r next after h = subst (λ (b : Bool). Answers b r next after) (sym e) (h.answers, (h.slots-in, h.scores-in))
 
-  pub some_nan : any_nan score marks n ≡ true → ListsHits score marks n k slots slots scores scores (Err Nan)
-  unfolding list_answer any_nan over
-  some_nan e = record { answers = rw e refl; slots-in = refl; scores-in = refl }
+  pub some_nan : any_nan score marks 0 n ≡ true → ListsHits score marks n k slots slots scores scores (Err Nan)
+  unfolding list_answer over
+  some_nan e = record { answers = rw (any_nan_scored score marks n, e) refl; slots-in = refl; scores-in = refl }
 
   -- every score is a binary32 and no NaN
-  module _ (float : (i : ℕ) → T (fits binary32 (score i))) (few : n ≤ 65536) (none : any_nan score marks n ≡ false) where
+  module _ (float : (i : ℕ) → T (fits binary32 (score i))) (few : n ≤ 65536) (none : any_nan score marks 0 n ≡ false) where
     abbrev numbers : List ℕ
     numbers = tab (order_entry score marks) n
 
@@ -115,8 +115,8 @@ module _ (score : ℕ → Float) (marks : List ℕ) (n k : ℕ) (slots : List �
         go false t = rw (le-leb (length (picks score marks n k)) places (ltb-false places (length (picks score marks n k)) t))
 
     -- as many as are asked for, of those that take part
-    picks-many : length (picks score marks n k) ≡ min (max k 1) (length (keep (takes_part marks) (below n)))
-    picks-many = choose-length (λ i. order_number (score i)) k (keep (takes_part marks) (below n))
+    picks-many : length (picks score marks n k) ≡ min (max k 1) (length (keep (live_at marks) (below n)))
+    picks-many = choose-length (λ i. order_number (score i)) k (keep (live_at marks) (below n))
 
     -- the answer by the count
     abbrev given : Bool → Listed
@@ -124,8 +124,8 @@ module _ (score : ℕ → Float) (marks : List ℕ) (n k : ℕ) (slots : List �
     given false = Ok (length (chosen score marks n k))
 
     answer-is : list_answer score marks n true k places ≡ given short
-    unfolding list_answer any_nan
-    answer-is = rw (none, sym (length-map (chosen score marks n k) (λ e. e.0)), chosen-slots score marks n k) (go short)
+    unfolding list_answer
+    answer-is = rw (any_nan_scored score marks n, none, sym (length-map (chosen score marks n k) (λ e. e.0)), chosen-slots score marks n k) (go short)
       where
         go : (b : Bool) → cond b (Err Unable) (Ok (length (picks score marks n k))) ≡ given b
         go true = refl
@@ -134,11 +134,11 @@ module _ (score : ℕ → Float) (marks : List ℕ) (n k : ℕ) (slots : List �
     counted : (b : Bool) → short ≡ b → count_answer (length (cond b [] (picks score marks n k))) (any_takes_part marks n) ≡ given b
     unfolding any_takes_part
     counted true t =
-        ap (count_answer 0) (lt-ltb 0 (length (keep (takes_part marks) (below n))) (omega (arith, picks-many, ltb-true places (length (picks score marks n k)) t)))
+        ap (count_answer 0) (lt-ltb 0 (length (keep (live_at marks) (below n))) (omega (arith, picks-many, ltb-true places (length (picks score marks n k)) t)))
     counted false t = go (length (picks score marks n k)) picks-many ∙ ap Ok (sym (ap length (chosen-slots score marks n k)) ∙ length-map (chosen score marks n k) (λ e. e.0))
       where
-        go : (m : ℕ) → m ≡ min (max k 1) (length (keep (takes_part marks) (below n))) → count_answer m (ltb 0 (length (keep (takes_part marks) (below n)))) ≡ Ok m
-        go zero e = ap (count_answer 0) (le-ltb 0 (length (keep (takes_part marks) (below n))) (omega (arith, e)))
+        go : (m : ℕ) → m ≡ min (max k 1) (length (keep (live_at marks) (below n))) → count_answer m (ltb 0 (length (keep (live_at marks) (below n)))) ≡ Ok m
+        go zero e = ap (count_answer 0) (le-ltb 0 (length (keep (live_at marks) (below n))) (omega (arith, e)))
         go (suc m) e = refl
 
     slots-are : (b : Bool) → map (λ e. e.0) (shown score marks n k (given b)) ≡ cond b [] (picks score marks n k)

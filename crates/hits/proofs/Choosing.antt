@@ -11,7 +11,7 @@ use Rattle.pattern.specs.Binary32.{+0}
 use Rattle.lists.specs.Lists.{tab, below}
 use Rattle.lists.specs.Keep.{keep, Each}
 use Rattle.lists.proofs.Laws.{get_or-tab}
-use Rattle.lists.proofs.Keep.{each_keep, each-kept}
+use Rattle.lists.proofs.Keep.{each_keep, each-kept, map_same}
 use Rattle.lists.proofs.Front.{each-tab}
 use Rattle.choose.specs.Choose.{choose}
 use Rattle.choose.proofs.Choice.{choose-map, choose-each}
@@ -20,18 +20,11 @@ use Rattle.score.proofs.Order.{number-positive}
 use Rattle.held.proofs.Live.{numbered-tab}
 use Rattle.choose_slots.specs.Slots as Slots
 use Rattle.choose_slots.specs.Slots.{listed}
-use Rattle.scan.specs.Scan.{takes_part}
+use Rattle.marks.specs.Live.{live_at}
 use Rattle.hits.specs.Hits.{scored_slots, chosen}
-use Rattle.hits.specs.Steps.{score_entry, order_entry}
-use Rattle.hits.proofs.Entering.{nan_at}
+use Rattle.hits.specs.Steps.{score_entry, order_entry, nan_at}
 
--- ---- lists
-
-pub map-each-same : {X Y : Type 0} (f g : X → Y) (xs : List X) → Each (λ x. f x ≡ g x) xs → map f xs ≡ map g xs
-map-each-same f g [] h = refl
-map-each-same f g (x ∷ xs) h = rw (h.0, map-each-same f g xs h.1)
-
-entry-own : (score : ℕ → Float) (marks : List ℕ) (i : ℕ) → takes_part marks i ≡ true → score_entry score marks i ≡ score i
+entry-own : (score : ℕ → Float) (marks : List ℕ) (i : ℕ) → live_at marks i ≡ true → score_entry score marks i ≡ score i
 unfolding score_entry
 entry-own score marks i m = rw m
 
@@ -43,7 +36,7 @@ module _ (score : ℕ → Float) (marks : List ℕ) where
 
   -- the slots that take part
   abbrev taking : ℕ → List ℕ
-  taking n = keep (takes_part marks) (below n)
+  taking n = keep (live_at marks) (below n)
 
   -- the chosen slots
   abbrev pub picks : (n k : ℕ) → List ℕ
@@ -66,15 +59,15 @@ module _ (score : ℕ → Float) (marks : List ℕ) where
 
     -- a slot that takes part has an order number above 0, as no score is NaN
     kept : (is : List ℕ) → Each (λ i. nan_at score marks i ≡ false) is →
-        keep (λ e. ltb 0 e.1) (map entry is) ≡ map (λ i. (i, order i)) (keep (takes_part marks) is)
+        keep (λ e. ltb 0 e.1) (map entry is) ≡ map (λ i. (i, order i)) (keep (live_at marks) is)
     unfolding order_entry
     kept [] none = refl
     kept (i ∷ is) none =
-        go (takes_part marks i) refl (is_nan (score i)) refl none.0 (kept is none.1)
+        go (live_at marks i) refl (is_nan (score i)) refl none.0 (kept is none.1)
       where
-        go : (b : Bool) → takes_part marks i ≡ b → (c : Bool) → is_nan (score i) ≡ c → nan_at score marks i ≡ false →
-            keep (λ e. ltb 0 e.1) (map entry is) ≡ map (λ i. (i, order i)) (keep (takes_part marks) is) →
-            keep (λ e. ltb 0 e.1) (map entry (i ∷ is)) ≡ map (λ i. (i, order i)) (keep (takes_part marks) (i ∷ is))
+        go : (b : Bool) → live_at marks i ≡ b → (c : Bool) → is_nan (score i) ≡ c → nan_at score marks i ≡ false →
+            keep (λ e. ltb 0 e.1) (map entry is) ≡ map (λ i. (i, order i)) (keep (live_at marks) is) →
+            keep (λ e. ltb 0 e.1) (map entry (i ∷ is)) ≡ map (λ i. (i, order i)) (keep (live_at marks) (i ∷ is))
         go false e c f none ih = rw e ih
         go true e true f none ih = absurd (subst T (rw (e, f) at none) tt)
         go true e false f none ih = rw (e, lt-ltb 0 (order i) (number-positive (score i) (float i) f), ih)
@@ -90,7 +83,7 @@ module _ (score : ℕ → Float) (marks : List ℕ) where
 
   -- their scores stand in the working array
   pub picks-scores : (n k : ℕ) → map (λ i. get_or (tab (score_entry score marks) n) i +0) (picks n k) ≡ map score (picks n k)
-  picks-scores n k = map-each-same read (score_entry score marks) (picks n k) entries ∙ map-each-same (score_entry score marks) score (picks n k) own
+  picks-scores n k = map_same read (score_entry score marks) (picks n k) entries ∙ map_same (score_entry score marks) score (picks n k) own
     where
       read : ℕ → Float
       read i = get_or (tab (score_entry score marks) n) i +0
@@ -98,10 +91,10 @@ module _ (score : ℕ → Float) (marks : List ℕ) where
       entries : Each (λ i. read i ≡ score_entry score marks i) (picks n k)
       entries =
           choose-each order k (taking n) (λ i. read i ≡ score_entry score marks i)
-          (each_keep (λ i. read i ≡ score_entry score marks i) (takes_part marks) (below n)
+          (each_keep (λ i. read i ≡ score_entry score marks i) (live_at marks) (below n)
           (each-tab (λ i. read i ≡ score_entry score marks i) (λ i. i) n (λ i l. get_or-tab (score_entry score marks) n i +0 l)))
 
       own : Each (λ i. score_entry score marks i ≡ score i) (picks n k)
       own =
           choose-each order k (taking n) (λ i. score_entry score marks i ≡ score i)
-          (each-kept (λ i. score_entry score marks i ≡ score i) (takes_part marks) (below n) (entry-own score marks))
+          (each-kept (λ i. score_entry score marks i ≡ score i) (live_at marks) (below n) (entry-own score marks))

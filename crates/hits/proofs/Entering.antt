@@ -1,174 +1,143 @@
 -- The working arrays: slots are entered one after the other, until one has a NaN for its score.
-use mathlib.Core.Path.{◌≡◌, refl, sym, ap, ◌∙◌, subst}
-use mathlib.Core.Bool.{Bool, true, false, not, cond, ◌&&◌}
+use mathlib.Core.Path.{◌≡◌, refl, sym, ap, subst, ◌∙◌}
+use mathlib.Core.Bool.{Bool, true, false, not, cond, ◌&&◌, ◌||◌}
 use mathlib.Core.List.{List, [], ◌∷◌, map}
-use Prim.Native.Nat.{ℕ, suc, ◌+◌, ◌≤◌, ◌<◌}
-use native.Mathlib.Nat.{le_antisymm}
+use Prim.Native.Nat.{ℕ, zero, suc, ◌+◌, ◌-◌, ◌≤◌, ◌<◌}
 use native.Mathlib.Omega.{arith}
-use borrow.Author.Count.{below_more}
-use borrow.Author.Tests.{not-true}
+use borrow.Author.Tests.{not-true, not-false}
 use lib.Dec.{T}
 use lib.ListN.{length, get_or, set}
+use lib.Seq.{sets}
 use lib.Ieee.{Float, nan, is_nan}
+use Rattle.std.specs.List.{list_any, range_with_len}
+use Rattle.std.proofs.lemmas.List.FromFn.{length-map-range_with_len}
 use Rattle.pattern.specs.Binary32.{+0}
-use Rattle.lists.specs.Lists.{tab, over, below}
+use Rattle.lists.specs.Lists.{over, below}
 use Rattle.lists.specs.Keep.{keep, Each, any}
-use Rattle.lists.proofs.Laws.{over-more, length-tab, tab-ext}
-use Rattle.lists.proofs.Keep.{keep-none, keep_same}
-use Rattle.lists.proofs.Front.{get_or-rest, each-tab, tab-each}
+use Rattle.lists.proofs.Laws.{length-tab}
+use Rattle.lists.proofs.Keep.{get_or-sets_past}
+use Rattle.lists.proofs.Ranges.{range-below, any_split, sets_more, sets_front, none_any, any-map}
 use Rattle.score.specs.Order.{order_number}
-use Rattle.scan.specs.Scan.{takes_part}
+use Rattle.marks.specs.Live.{live_at}
 use Rattle.hits.specs.Hits.{scored_slots}
-use Rattle.hits.specs.Steps.{score_entry, order_entry, any_nan, Scores, EntersSlot, EntersSlots}
+use Rattle.hits.specs.Steps.{score_entry, order_entry, nan_at, any_nan, Scores, EntersFrom, EntersSlot, EntersSlots}
 
 pub never : {A : Type 0} → false ≡ true → A
 never e = absurd (subst T (sym e) tt)
 
-abbrev some_of : List ℕ → Bool
-some_of [] = false
-some_of (i ∷ is) = true
-
-none_first : (b : Bool) (i : ℕ) (is : List ℕ) → cond b (i ∷ is) is ≡ [] → (b ≡ false) × (is ≡ [])
-none_first true i is e = absurd (let z : suc (length is) ≡ 0 = ap length e in omega arith)
-none_first false i is e = (refl, e)
-
-pub none_each : (p : ℕ → Bool) (is : List ℕ) → keep p is ≡ [] → Each (λ i. p i ≡ false) is
-none_each p [] e = tt
-none_each p (i ∷ is) e = let r = none_first (p i) i (keep p is) e in (r.0, none_each p is r.1)
-
 module _ (score : ℕ → Float) (marks : List ℕ) where
-  -- the slot takes part, and its score is NaN
-  abbrev pub nan_at : ℕ → Bool
-  nan_at i = takes_part marks i && is_nan (score i)
-
   -- ---- one slot
 
   module _ (i : ℕ) (all next : List Float) (orders after : List ℕ) where
     abbrev Enters : Bool → Type 0
     Enters r = EntersSlot score marks i all next orders after r
 
-    pub enters-not : takes_part marks i ≡ false → next ≡ set all i +0 → after ≡ set orders i 0 → Enters true
+    pub enters-not : live_at marks i ≡ false → next ≡ set all i +0 → after ≡ set orders i 0 → Enters true
     unfolding score_entry order_entry
-    enters-not m e f = record { sound = rw m; score-in = λ _. rw m e; order-in = λ _. rw m f }
+    enters-not m e f = record { sound = rw m; scores-in = λ _. rw m e; orders-in = λ _. rw m f }
 
-    pub enters-nan : takes_part marks i ≡ true → is_nan (score i) ≡ true → Enters false
-    enters-nan m t = record { sound = rw (m, t); score-in = never; order-in = never }
+    pub enters-nan : live_at marks i ≡ true → is_nan (score i) ≡ true → Enters false
+    enters-nan m t = record { sound = rw (m, t); scores-in = never; orders-in = never }
 
-    pub enters-score : takes_part marks i ≡ true → is_nan (score i) ≡ false → next ≡ set all i (score i) →
+    pub enters-score : live_at marks i ≡ true → is_nan (score i) ≡ false → next ≡ set all i (score i) →
         (o : ℕ) → o ≡ order_number (score i) → after ≡ set orders i o → Enters true
     unfolding score_entry order_entry
-    enters-score m t f o g h = record { sound = rw (m, t); score-in = λ _. rw m f; order-in = λ _. rw (m, ← g) h }
+    enters-score m t f o g h = record { sound = rw (m, t); scores-in = λ _. rw m f; orders-in = λ _. rw (m, ← g) h }
 
-    -- only the score of slot i counts
-    pub enters-like : (other : ℕ → Float) → other i ≡ score i → (r : Bool) → EntersSlot other marks i all next orders after r → Enters r
-    unfolding score_entry order_entry
-    enters-like other e r h = record { sound = rw (← e) h.sound; score-in = λ t. rw (← e) (h.score-in t); order-in = λ t. rw (← e) (h.order-in t) }
+  -- ---- whether a slot that takes part has a NaN
 
-  -- ---- the slots below n
+  abbrev any_of : List ℕ → Bool
+  any_of is = any (λ (e : ℕ × Float). is_nan e.1) (map (λ i. (i, score i)) is)
 
-  any-kept : (is : List ℕ) → any (λ (e : ℕ × Float). is_nan e.1) (map (λ i. (i, score i)) (keep (takes_part marks) is)) ≡ some_of (keep nan_at is)
+  any-scored : (is : List ℕ) → any_of (keep (live_at marks) is) ≡ list_any (nan_at score marks) is
   unfolding any
-  any-kept [] = refl
-  any-kept (i ∷ is) = go (takes_part marks i) (is_nan (score i)) refl refl (any-kept is)
+  any-scored [] = refl
+  any-scored (i ∷ is) = go (live_at marks i) (any-scored is)
     where
-      go : (b c : Bool) → takes_part marks i ≡ b → is_nan (score i) ≡ c →
-          any (λ (e : ℕ × Float). is_nan e.1) (map (λ i. (i, score i)) (keep (takes_part marks) is)) ≡ some_of (keep nan_at is) →
-          any (λ (e : ℕ × Float). is_nan e.1) (map (λ i. (i, score i)) (keep (takes_part marks) (i ∷ is))) ≡ some_of (keep nan_at (i ∷ is))
-      go true true e f ih = rw (e, f)
-      go true false e f ih = rw (e, f) ih
-      go false c e f ih = rw e ih
+      go : (b : Bool) → any_of (keep (live_at marks) is) ≡ list_any (nan_at score marks) is →
+          any_of (cond b (i ∷ keep (live_at marks) is) (keep (live_at marks) is)) ≡ ((b && is_nan (score i)) || list_any (nan_at score marks) is)
+      go true ih = ap (λ (b : Bool). is_nan (score i) || b) ih
+      go false ih = ih
 
-  any_nan_lem : (n : ℕ) → any_nan score marks n ≡ some_of (keep nan_at (below n))
-  unfolding any_nan scored_slots
-  any_nan_lem n = any-kept (below n)
+  pub any_nan_scored : (n : ℕ) → any (λ (e : ℕ × Float). is_nan e.1) (scored_slots score marks n) ≡ any_nan score marks 0 n
+  unfolding scored_slots
+  any_nan_scored n = rw (← range-below n) (any-scored (range_with_len 0 n))
 
-  pub no_nan : (n : ℕ) → any_nan score marks n ≡ false → Each (λ i. nan_at i ≡ false) (below n)
-  no_nan n e = none_each nan_at (below n) (go (keep nan_at (below n)) (sym (any_nan_lem n) ∙ e))
+  pub no_nan : (n : ℕ) → any_nan score marks 0 n ≡ false → Each (λ i. nan_at score marks i ≡ false) (below n)
+  no_nan n e = rw (← range-below n) (none_any (nan_at score marks) (range_with_len 0 n) e)
+
+-- ---- only the scores of slots that take part count
+
+module _ (marks : List ℕ) (other score : ℕ → Float) where
+  abbrev Alike : (first many : ℕ) → Type 0
+  Alike first many = (i : ℕ) → first ≤ i → i < first + many → live_at marks i ≡ true → other i ≡ score i
+
+  like : {X : Type 0} (f : Bool → Float → X) → ((x y : Float) → f false x ≡ f false y) → (first many : ℕ) → Alike first many →
+      map (λ i. f (live_at marks i) (other i)) (range_with_len first many) ≡ map (λ i. f (live_at marks i) (score i)) (range_with_len first many)
+  like f c first zero a = refl
+  like f c first (suc n) a = rw (go (live_at marks first) refl, like f c (first + 1) n (λ i l m. a i (omega arith) (omega arith)))
     where
-      go : (is : List ℕ) → some_of is ≡ false → is ≡ []
-      go [] f = refl
-      go (i ∷ is) f = never (sym f)
+      go : (b : Bool) → live_at marks first ≡ b → f b (other first) ≡ f b (score first)
+      go true m = ap (f true) (a first (omega arith) (omega arith) m)
+      go false m = c (other first) (score first)
 
-  -- the slots before i are entered, and none of them has a NaN
-  pub record Begun (all₀ : List Float) (orders₀ : List ℕ) (all : List Float) (orders : List ℕ) (i : ℕ) : Type 0 where
-    pub none : (j : ℕ) → j < i → nan_at j ≡ false
-    pub scores : all ≡ over (tab (score_entry score marks) i) all₀
-    pub numbers : orders ≡ over (tab (order_entry score marks) i) orders₀
-
-  pub begun-none : (all : List Float) (orders : List ℕ) → Begun all orders all orders 0
-  unfolding over
-  begun-none all orders = record { none = λ j l. absurd (omega arith); scores = refl; numbers = refl }
-
-  module _ {all₀ all : List Float} {orders₀ orders : List ℕ} {i : ℕ} (b : Begun all₀ orders₀ all orders i) where
-    -- the place of slot i is still as it was
-    pub begun-here : get_or all i nan ≡ get_or all₀ i nan
-    begun-here =
-        ap (λ (l : List Float). get_or l i nan) b.scores
-        ∙ get_or-rest (tab (score_entry score marks) i) all₀ i nan (omega (arith, length-tab (score_entry score marks) i))
-
-    pub begun_more : {next : List Float} {after : List ℕ} {r : Bool} → i < length all₀ → i < length orders₀ →
-        EntersSlot score marks i all next orders after r → r ≡ true → Begun all₀ orders₀ next after (i + 1)
-    begun_more h k e t =
+  module _ {all next : List Float} {orders after : List ℕ} {r : Bool} (first many : ℕ) (a : Alike first many) where
+    enters_like : EntersFrom other marks first many all next orders after r → EntersFrom score marks first many all next orders after r
+    unfolding score_entry order_entry
+    enters_like e =
         record {
-          none = below_more _ _ b.none (not-true (nan_at i) (sym e.sound ∙ t));
-          scores = e.score-in t ∙ ap (λ (l : List Float). set l i (score_entry score marks i)) b.scores ∙ over-more (score_entry score marks) i all₀ h;
-          numbers = e.order-in t ∙ ap (λ (l : List ℕ). set l i (order_entry score marks i)) b.numbers ∙ over-more (order_entry score marks) i orders₀ k;
+          sound =
+              e.sound ∙ ap not (any-map (nan_at other marks) (range_with_len first many)
+              ∙ ap (list_any (λ b. b)) (like (λ b x. b && is_nan x) (λ x y. refl) first many a) ∙ sym (any-map (nan_at score marks) (range_with_len first many)));
+          scores-in = λ t. e.scores-in t ∙ ap (sets all first) (like (λ b x. cond b x +0) (λ x y. refl) first many a);
+          orders-in = λ t. e.orders-in t ∙ ap (sets orders first) (like (λ b x. cond b (order_number x) 0) (λ x y. refl) first many a);
         }
 
-  module _ (n : ℕ) (all₀ all : List Float) (orders₀ orders : List ℕ) where
-    abbrev EntersAll : Bool → Type 0
-    EntersAll r = EntersSlots score marks n all₀ all orders₀ orders r
+-- ---- slot after slot, and group after group
 
-    pub enters-all : (i : ℕ) → Begun all₀ orders₀ all orders i → i ≤ n → n ≤ i → EntersAll true
-    enters-all i b l m =
-        let e : i ≡ n = le_antisymm l m in
-        let none : keep nan_at (below n) ≡ [] = keep-none nan_at (below n) (each-tab (λ j. nan_at j ≡ false) (λ j. j) n (rw e at b.none)) in
-        record { sound = sym (ap not (any_nan_lem n ∙ ap some_of none)); scores-in = λ _. rw e at b.scores; orders-in = λ _. rw e at b.numbers }
+-- one of the first i slots has a NaN: so has one of n
+pub enters_stop : {score : ℕ → Float} {marks : List ℕ} {first i n : ℕ} {all next : List Float} {orders after : List ℕ} →
+    EntersFrom score marks first i all next orders after false → i ≤ n → EntersFrom score marks first n all next orders after false
+enters_stop {score} {marks} {first} {i} {n} e h =
+    record {
+      sound = rw (any_split first i (first + i) (n - i) n refl (omega arith) (nan_at score marks), not-false _ (sym e.sound)) refl;
+      scores-in = never;
+      orders-in = never;
+    }
 
-    pub stops : (i : ℕ) → i < n → nan_at i ≡ true → EntersAll false
-    stops i l t = record { sound = sym (ap not (any_nan_lem n ∙ go (keep nan_at (below n)) refl)); scores-in = never; orders-in = never }
-      where
-        go : (is : List ℕ) → keep nan_at (below n) ≡ is → some_of is ≡ true
-        go [] e = never (sym (tab-each (λ j. nan_at j ≡ false) (λ j. j) n (none_each nan_at (below n) e) i l) ∙ t)
-        go (j ∷ is) e = refl
+-- the scores that stand in an array
+abbrev read : List Float → ℕ → Float
+read xs i = get_or xs i nan
+
+-- the first i slots are entered, and then k others, from j on, by the scores that stand in the array by then
+pub enters_more : {marks : List ℕ} {first i j k n : ℕ} {all mid next : List Float} {orders onmid after : List ℕ} {r s : Bool} →
+    EntersFrom (read all) marks first i all mid orders onmid true → EntersFrom (read mid) marks j k mid next onmid after r →
+    first + i ≡ j → i + k ≡ n → r ≡ s → EntersFrom (read all) marks first n all next orders after s
+enters_more {marks} {first} {i} {j} {k} {n} {all} {mid} {orders = orders} b e f g q =
+    let own = enters_like marks (read mid) (read all) j k at e in
+    record {
+      sound = rw (any_split first i j k n f g (nan_at (read all) marks), not-true _ (sym b.sound)) (sym q ∙ own.sound);
+      scores-in = λ t. sets_more first i j k n f g _ all (b.scores-in refl) (own.scores-in (q ∙ t));
+      orders-in = λ t. sets_more first i j k n f g _ orders (b.orders-in refl) (own.orders-in (q ∙ t));
+    }
+  where
+    -- the places of the later slots are still as they were
+    at : (l : ℕ) → j ≤ l → l < j + k → live_at marks l ≡ true → read mid l ≡ read all l
+    at l h m t =
+        ap (λ (xs : List Float). read xs l) (b.scores-in refl)
+        ∙ get_or-sets_past all first (map (score_entry (read all) marks) (range_with_len first i)) l nan
+        (omega (arith, f, length-map-range_with_len (score_entry (read all) marks) first i))
 
 -- ---- by scores that stand in the array
 
-module _ (score : ℕ → Float) (marks : List ℕ) (n : ℕ) (all mid next : List Float) (orders after : List ℕ) (r : Bool) (s : Scores score marks n all mid) where
-  abbrev read : ℕ → Float
-  read i = get_or mid i nan
-
-  entry-like : (i : ℕ) → i < n → score_entry read marks i ≡ score_entry score marks i
-  unfolding score_entry
-  entry-like i l = go (takes_part marks i) refl
-    where
-      go : (b : Bool) → takes_part marks i ≡ b → cond b (read i) +0 ≡ cond b (score i) +0
-      go true m = s.there i l m
-      go false m = refl
-
-  order-like : (i : ℕ) → i < n → order_entry read marks i ≡ order_entry score marks i
-  unfolding order_entry
-  order-like i l = go (takes_part marks i) refl
-    where
-      go : (b : Bool) → takes_part marks i ≡ b → cond b (order_number (read i)) 0 ≡ cond b (order_number (score i)) 0
-      go true m = ap order_number (s.there i l m)
-      go false m = refl
-
-  nan-like : (i : ℕ) → i < n → nan_at read marks i ≡ nan_at score marks i
-  nan-like i l = go (takes_part marks i) refl
-    where
-      go : (b : Bool) → takes_part marks i ≡ b → (b && is_nan (read i)) ≡ (b && is_nan (score i))
-      go true m = ap is_nan (s.there i l m)
-      go false m = refl
-
-  over-like : (f g : ℕ → Float) → ((i : ℕ) → i < n → f i ≡ g i) → over (tab f n) mid ≡ over (tab g n) all
-  unfolding over
-  over-like f g e = rw (tab-ext f g n e, length-tab g n, s.rest)
-
-  pub entered-scores : EntersSlots read marks n mid next orders after r → EntersSlots score marks n all next orders after r
-  entered-scores e =
-      record {
-        sound = e.sound ∙ ap not (any_nan_lem read marks n ∙ ap some_of (keep_same (nan_at read marks) (nan_at score marks) (below n) (each-tab _ (λ i. i) n nan-like)) ∙ sym (any_nan_lem score marks n));
-        scores-in = λ t. e.scores-in t ∙ over-like (score_entry read marks) (score_entry score marks) entry-like;
-        orders-in = λ t. e.orders-in t ∙ ap (λ (l : List ℕ). over l orders) (tab-ext _ _ n order-like);
-      }
+pub entered-scores : {score : ℕ → Float} {marks : List ℕ} {n : ℕ} {all mid next : List Float} {orders after : List ℕ} {r : Bool} → n ≤ length all → Scores score marks n all mid →
+    EntersSlots (read mid) marks n mid next orders after r → EntersSlots score marks n all next orders after r
+unfolding over
+entered-scores {score} {marks} {n} {all} {mid} h s e =
+    let own = enters_like marks (read mid) score 0 n (λ i l m t. s.there i (omega arith) t) e in
+    let f = score_entry score marks in
+    record {
+      sound = own.sound;
+      scores-in = λ t. own.scores-in t ∙ sets_front f n mid (rw s.same h) ∙ rw (length-tab f n, s.rest) refl ∙ sym (sets_front f n all h);
+      orders-in = own.orders-in;
+    }

@@ -16,7 +16,8 @@ use Rattle.encode.specs.declared.Header.{Header}
 use Rattle.encode.specs.Header.{block_size}
 use Rattle.score.specs.Score.{stage_score, slot_score}
 use Rattle.index.specs.State.{stage_at}
-use Rattle.scan.specs.Scan.{takes_part, stage_of, score_after, score_now, scanned}
+use Rattle.marks.specs.Live.{live_at}
+use Rattle.scan.specs.Scan.{stage_of, score_after, score_now, scanned}
 use Rattle.hits.specs.Steps.{score_prepared, Scores}
 
 -- ---- what the scan leaves
@@ -38,7 +39,7 @@ module _ (score : ℕ → Float) (marks : List ℕ) (second : Bool) (n : ℕ) (a
       let long : length entries ≡ n = length-tab (λ i. score_now score marks second i (get_or all i nan)) n in
       rw (scanned-is, drop_at entries (drop (length entries) all) n long, long)
 
-  pub scanned-at : (i : ℕ) → i < n → takes_part marks i ≡ true → get_or (scanned score marks second n all) i nan ≡ cond second (get_or all i nan ⊕ score i) (score i)
+  pub scanned-at : (i : ℕ) → i < n → live_at marks i ≡ true → get_or (scanned score marks second n all) i nan ≡ cond second (get_or all i nan ⊕ score i) (score i)
   unfolding score_after
   scanned-at i l m =
       let long : length entries ≡ n = length-tab (λ i. score_now score marks second i (get_or all i nan)) n in
@@ -52,7 +53,7 @@ module _ (h : Header) (codes scales codes2 scales2 : List ℕ) (cs q : List Floa
   unfolding stage_of
   stage_is codes scales i = rw is
 
-  at_first : (i : ℕ) → i < n → takes_part marks i ≡ true → get_or next i nan ≡ stage_score h.bits cs q (stage_at h scales codes i)
+  at_first : (i : ℕ) → i < n → live_at marks i ≡ true → get_or next i nan ≡ stage_score h.bits cs q (stage_at h scales codes i)
   at_first i l m =
       ap (λ (xs : List Float). get_or xs i nan) first ∙ scanned-at (stage_of h.bits cs q size codes scales) marks false n all fits i l m ∙ stage_is codes scales i
 

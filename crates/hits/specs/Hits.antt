@@ -15,7 +15,7 @@ use Rattle.index.specs.declared.Index.{Index}
 use Rattle.index.specs.Arrays.{Arrays}
 use Rattle.index.specs.State.{header_of, stage_at}
 use Rattle.index.specs.Codec.{score_of}
-use Rattle.scan.specs.Scan.{takes_part}
+use Rattle.marks.specs.Live.{live_at}
 
 -- the score of each slot by the arrays of codes and scales
 unfoldable pub score_at : Header → (codes scales codes2 scales2 : List ℕ) → Query → ℕ → Float
@@ -32,7 +32,7 @@ Listed = Result ℕ Unlisted
 module _ (score : ℕ → Float) (marks : List ℕ) (n : ℕ) where
   -- number and score of the slots that take part, in slot order
   unfoldable pub scored_slots : List (ℕ × Float)
-  scored_slots = map (λ i. (i, score i)) (keep (takes_part marks) (below n))
+  scored_slots = map (λ i. (i, score i)) (keep (live_at marks) (below n))
 
   abbrev pub chosen : (k : ℕ) → List (ℕ × Float)
   chosen k = choose (λ e. order_number e.1) k scored_slots

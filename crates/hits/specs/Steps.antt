@@ -1,10 +1,12 @@
 -- Words of the contracts on the way to the list.
-use Rattle.std.specs.Prelude.{◌≡◌, Bool, true, false, not, cond, ◌&&◌, List, map, ℕ, zero, suc, min, ◌<◌, ltb, length, take, drop, get_or, set, Float, Ok, Err}
+use Rattle.std.specs.Prelude.{◌≡◌, Bool, true, false, not, cond, ◌&&◌, List, map, ℕ, zero, suc, min, ◌<◌, ltb, length, take, drop, get_or, Float, Ok, Err}
 use Rattle.std.proofs.Math.Option.{none, some}
+use Rattle.std.specs.List.{list_any, range_with_len}
+use Rattle.std.proofs.lemmas.List.Edits.{sets}
 use Rattle.std.specs.Float.{nan}
 use Rattle.std.specs.Float.Ieee.{is_nan}
 use Rattle.pattern.specs.Binary32.{+0}
-use Rattle.lists.specs.Lists.{tab, over, below}
+use Rattle.lists.specs.Lists.{over, below}
 use Rattle.encode.specs.declared.Header.{Header}
 use Rattle.score.specs.Score.{slot_score}
 use Rattle.score.specs.Order.{order_number}
@@ -13,9 +15,9 @@ use Rattle.hits.specs.declared.Unlisted.TheVariants.{Unable}
 use Rattle.index.specs.declared.Index.{Index}
 use Rattle.index.specs.Arrays.{Arrays}
 use Rattle.index.specs.State.{header_of, stage_at}
-use Rattle.lists.specs.Keep.{any, keep}
-use Rattle.scan.specs.Scan.{takes_part}
-use Rattle.hits.specs.Hits.{Listed, scored_slots, shown, list_answer}
+use Rattle.lists.specs.Keep.{keep}
+use Rattle.marks.specs.Live.{live_at}
+use Rattle.hits.specs.Hits.{Listed, shown, list_answer}
 
 -- the score of each slot under a prepared query, by a table of centroids
 unfoldable pub score_prepared : Header → (codes scales codes2 scales2 : List ℕ) → (centroids prepared : List Float) → ℕ → Float
@@ -29,32 +31,38 @@ prepared_score x a centroids prepared = score_prepared (header_of x) a.codes a.s
 module _ (score : ℕ → Float) (marks : List ℕ) where
   -- what the working arrays have at a slot: its score, and its order number; 0 for a slot that takes no part
   unfoldable pub score_entry : ℕ → Float
-  score_entry i = cond (takes_part marks i) (score i) +0
+  score_entry i = cond (live_at marks i) (score i) +0
 
   unfoldable pub order_entry : ℕ → ℕ
-  order_entry i = cond (takes_part marks i) (order_number (score i)) 0
+  order_entry i = cond (live_at marks i) (order_number (score i)) 0
 
-  -- of the slots below n that take part, one has a NaN for its score
-  unfoldable pub any_nan : (n : ℕ) → Bool
-  any_nan n = any (λ e. is_nan e.1) (scored_slots score marks n)
+  -- whether a slot takes part with a NaN for its score
+  abbrev pub nan_at : ℕ → Bool
+  nan_at i = live_at marks i && is_nan (score i)
+
+  -- whether one of `many` slots from `first` on does
+  abbrev pub any_nan : (first many : ℕ) → Bool
+  any_nan first many = list_any nan_at (range_with_len first many)
 
   -- The scores of the marked slots below n are in their places; the places from n on are as they were.
   pub record Scores (n : ℕ) (all next : List Float) : Type 0 where
     pub same : length next ≡ length all
-    pub there : (i : ℕ) → i < n → takes_part marks i ≡ true → get_or next i nan ≡ score i
+    pub there : (i : ℕ) → i < n → live_at marks i ≡ true → get_or next i nan ≡ score i
     pub rest : drop n next ≡ drop n all
 
-  -- What entering slot i does: `r` says that it does not take part with a NaN, and where that is so its entries are written.
-  pub record EntersSlot (i : ℕ) (all next : List Float) (orders after : List ℕ) (r : Bool) : Type 0 where
-    pub sound : r ≡ not (takes_part marks i && is_nan (score i))
-    pub score-in : r ≡ true → next ≡ set all i (score_entry i)
-    pub order-in : r ≡ true → after ≡ set orders i (order_entry i)
+  -- What entering `many` slots from `first` on does: `r` says that none of them takes part with a NaN, and where that is so their entries are written.
+  pub record EntersFrom (first many : ℕ) (all next : List Float) (orders after : List ℕ) (r : Bool) : Type 0 where
+    pub sound : r ≡ not (any_nan first many)
+    pub scores-in : r ≡ true → next ≡ sets all first (map score_entry (range_with_len first many))
+    pub orders-in : r ≡ true → after ≡ sets orders first (map order_entry (range_with_len first many))
 
-  -- What entering the slots below n does: the same of all of them.
-  pub record EntersSlots (n : ℕ) (all next : List Float) (orders after : List ℕ) (r : Bool) : Type 0 where
-    pub sound : r ≡ not (any_nan n)
-    pub scores-in : r ≡ true → next ≡ over (tab score_entry n) all
-    pub orders-in : r ≡ true → after ≡ over (tab order_entry n) orders
+  -- what entering slot i does
+  abbrev pub EntersSlot : (i : ℕ) (all next : List Float) (orders after : List ℕ) (r : Bool) → Type 0
+  EntersSlot i = EntersFrom i 1
+
+  -- what entering the slots below n does
+  abbrev pub EntersSlots : (n : ℕ) (all next : List Float) (orders after : List ℕ) (r : Bool) → Type 0
+  EntersSlots n = EntersFrom 0 n
 
 -- What is written by scores and order numbers of the slots: the chosen slots and their scores, of which there are r.
 pub record WritesHits (all : List Float) (orders : List ℕ) (k : ℕ) (slots next : List ℕ) (scores after : List Float) (r : ℕ) : Type 0 where
@@ -64,7 +72,7 @@ pub record WritesHits (all : List Float) (orders : List ℕ) (k : ℕ) (slots ne
 
 -- one of the slots below n takes part
 unfoldable pub any_takes_part : (marks : List ℕ) → (n : ℕ) → Bool
-any_takes_part marks n = ltb 0 (length (keep (takes_part marks) (below n)))
+any_takes_part marks n = ltb 0 (length (keep (live_at marks) (below n)))
 
 -- the answer where m hits are written, by whether a slot takes part: if one does, there is a hit, so no hit says that places are too few
 abbrev pub count_answer : (m : ℕ) → (any : Bool) → Listed

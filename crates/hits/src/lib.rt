@@ -1,21 +1,22 @@
-// The hits among marked slots: a slot takes part where its mark is not 0. Searches mark the live slots, cascades the nearest of them.
+// The hits among marked slots: a slot takes part where its mark is set. Searches mark the live slots, cascades the nearest of them.
 //
 // Scores and order numbers of all slots stand in two working arrays, and no place is written before every score is known to be no NaN.
 #![tactic(auto)]
 
-ghost use Rattle.std.specs.Prelude.{◌≡◌, true, map, ◌≤◌, ◌<◌, min, length, get_or};
+ghost use Rattle.std.specs.Prelude.{◌≡◌, true, map, List, ℕ, ◌≤◌, ◌<◌, ◌+◌, min, length, get_or};
 ghost use Rattle.std.specs.Float.{nan};
 ghost use Rattle.std.specs.List.{list_any, range_with_len};
 ghost use Rattle.pattern.specs.Binary32.{+0};
 ghost use Rattle.lists.specs.Lists.{over};
 ghost use Rattle.lists.specs.Keep.{Each};
+ghost use Rattle.marks.specs.Live.{marks_in, live_at};
+ghost use Rattle.marks.specs.Word.{Lives};
 ghost use Rattle.unit.specs.Brought.{query_of};
 ghost use Rattle.padding.specs.Rotatable.{rotatable};
 ghost use Rattle.refusal.specs.declared.Refusal.TheVariants.{ScoreNan};
 ghost use Rattle.index.specs.Lent.{contents};
-ghost use Rattle.scan.specs.Scan.{takes_part};
 ghost use Rattle.hits.specs.Hits.{slot_score_in, list_answer, shown, ready};
-ghost use Rattle.hits.specs.Steps.{prepared_score, Scores, EntersSlot, EntersSlots, WritesHits, any_takes_part, count_answer, ListsHits};
+ghost use Rattle.hits.specs.Steps.{prepared_score, Scores, EntersFrom, EntersSlot, EntersSlots, WritesHits, any_takes_part, count_answer, ListsHits};
 
 use index::{Index, Lent};
 use refusal::Refusal;
@@ -50,25 +51,18 @@ fn is_ready(index: Index, entries: usize) -> bool
 
 // ---- the working arrays
 
-// A slot past the end of the marks takes no part. `marks::is_live` makes the same test, but a cascade's marks say which slots are nearest, not which live.
-fn is_marked(marks: &[u8], slot: usize) -> bool
-    ensures { result ≡ takes_part marks.now slot }
-{
-    0 < marks.get(slot).copied().unwrap_or(0)
-}
-
 // The scores of the marked slots in use under a prepared query, each in its slot's place. The range of the width and the length of `all` are clauses here and
 // below: an index that is lent by C has no ghost field, and a struct around it, or around `all`, would be longer.
 fn score_slots(
     index: Index,
     arrays: &Lent<'_>,
-    marks: &[u8],
+    marks: &[u64],
     centroids: &[f32],
     prepared: &[f32],
     all: &mut [f32],
 )
     requires { (4 ≤ index.bits) × (index.bits ≤ 6) × (index.n ≤ length all.old) }
-    ensures { Scores (prepared_score index (contents arrays.now) centroids.now prepared.now) marks.now index.n all.old all.new }
+    ensures { Scores (prepared_score index (contents arrays.now) centroids.now prepared.now) (marks_in marks.now) index.n all.old all.new }
 {
     let bits = index.bits;
     let size = codes::bytes_per_vector(padding::padded_dim(index.working_dim), bits);
@@ -101,12 +95,12 @@ fn score_slots(
 }
 
 // Enters a slot, whose score is there if it takes part, into the working arrays. False where it takes part and its score is NaN.
-fn enter_slot(marks: &[u8], slot: usize, all: &mut [f32], orders: &mut [u32]) -> bool
+fn enter_slot(marked: bool, slot: usize, all: &mut [f32], orders: &mut [u32]) -> bool
     requires { (slot < length all.old) × (slot < length orders.old) }
-    ensures { EntersSlot (λ i. get_or all.old i nan) marks.now slot
+    ensures { (marks : List ℕ) → marked ≡ live_at marks slot → EntersSlot (λ i. get_or all.old i nan) marks slot
         all.old all.new orders.old orders.new result }
 {
-    if !is_marked(marks, slot) {
+    if !marked {
         all[slot] = 0.0;
         orders[slot] = 0;
         return true;
@@ -119,15 +113,34 @@ fn enter_slot(marks: &[u8], slot: usize, all: &mut [f32], orders: &mut [u32]) ->
     true
 }
 
-// Enters the slots below n, whose scores are there. False, at the first NaN, where one of them that takes part has a NaN for its score.
-// By a for: in the iterator's `all` the closure would change the two arrays, and nothing would say what they are afterwards; a for has an invariant that says it.
-fn enter_orders(marks: &[u8], n: usize, all: &mut [f32], orders: &mut [u32]) -> bool
-    requires { (n ≤ length all.old) × (n ≤ length orders.old) }
-    ensures { EntersSlots (λ i. get_or all.old i nan) marks.now n
+// Enters the slots of one word: `many` slots from `first` on, of which `word` has the marks. False, at the first NaN, where one that takes part has a NaN for its
+// score.
+// By a for, here and in `enter_orders`: in the iterator's `all` the closure would change the two arrays, and nothing would say what they are afterwards; a for has
+// an invariant that says it.
+fn enter_group(word: u64, first: usize, many: usize, all: &mut [f32], orders: &mut [u32]) -> bool
+    requires { (many ≤ 64) × (first + many ≤ length all.old) × (first + many ≤ length orders.old) }
+    ensures { (marks : List ℕ) → Lives marks first word → EntersFrom (λ i. get_or all.old i nan) marks first many
         all.old all.new orders.old orders.new result }
 {
-    for i in 0..n {
-        if !enter_slot(marks, i, all, orders) {
+    for k in 0..many {
+        if !enter_slot(marks::is_set(word, k), first + k, all, orders) {
+            return false;
+        }
+    }
+    true
+}
+
+// Enters the slots below n, whose scores are there. False, at the first NaN, where one of them that takes part has a NaN for its score.
+fn enter_orders(marks: &[u64], n: usize, all: &mut [f32], orders: &mut [u32]) -> bool
+    requires { (n ≤ length all.old) × (n ≤ length orders.old) }
+    ensures { EntersSlots (λ i. get_or all.old i nan) (marks_in marks.now) n
+        all.old all.new orders.old orders.new result }
+{
+    for group in 0..n.div_ceil(64) {
+        let word = marks::word_at(marks, group);
+        let first = group * 64;
+        let many = (n - first).min(64);
+        if !enter_group(word, first, many, all, orders) {
             return false;
         }
     }
@@ -138,7 +151,7 @@ fn enter_orders(marks: &[u8], n: usize, all: &mut [f32], orders: &mut [u32]) -> 
 fn enter_slots(
     index: Index,
     arrays: &Lent<'_>,
-    marks: &[u8],
+    marks: &[u64],
     centroids: &[f32],
     prepared: &[f32],
     all: &mut [f32],
@@ -146,7 +159,7 @@ fn enter_slots(
 ) -> bool
     requires { (4 ≤ index.bits) × (index.bits ≤ 6) × (index.n ≤ length all.old) × (index.n ≤ length orders.old) }
     ensures { EntersSlots (prepared_score index (contents arrays.now) centroids.now prepared.now)
-        marks.now index.n all.old all.new orders.old orders.new result }
+        (marks_in marks.now) index.n all.old all.new orders.old orders.new result }
 {
     score_slots(index, arrays, marks, centroids, prepared, all);
     enter_orders(marks, index.n, all, orders)
@@ -156,7 +169,7 @@ fn enter_slots(
 fn enter_all(
     index: Index,
     arrays: &Lent<'_>,
-    marks: &[u8],
+    marks: &[u64],
     query: &[f32],
     all: &mut [f32],
     orders: &mut [u32],
@@ -164,7 +177,7 @@ fn enter_all(
     requires sizes { (4 ≤ index.bits) × (index.bits ≤ 6) × (index.n ≤ length all.old) × (index.n ≤ length orders.old) }
     requires can_rotate { rotatable index.working_dim (length query.now) 4096 ≡ true }
     ensures { EntersSlots (slot_score_in index (contents arrays.now) (query_of query.now))
-        marks.now index.n all.old all.new orders.old orders.new result }
+        (marks_in marks.now) index.n all.old all.new orders.old orders.new result }
 {
     let levels = lloyd::levels(index.bits);
     let centroids = lloyd::centroids(index.bits);
@@ -209,15 +222,15 @@ fn write_hits(all: &[f32], orders: &[u32], k: usize, slots: &mut [u32], scores: 
 }
 
 // Whether one of the slots below n takes part.
-fn is_any_marked(marks: &[u8], n: usize) -> bool
-    ensures { result ≡ list_any (takes_part marks.now) (range_with_len 0 n) }
+fn is_any_marked(marks: &[u64], n: usize) -> bool
+    ensures { result ≡ list_any (live_at (marks_in marks.now)) (range_with_len 0 n) }
 {
-    (0..n).any(|i| is_marked(marks, i))
+    (0..n).any(|i| marks::is_live(marks, i))
 }
 
 // The answer where so many hits were written. None is written where no slot takes part, and also where places are too few for those that do.
-fn count_answer(hits: usize, marks: &[u8], n: usize) -> Result<usize, Unlisted>
-    ensures { result ≡ count_answer hits (any_takes_part marks.now n) }
+fn count_answer(hits: usize, marks: &[u64], n: usize) -> Result<usize, Unlisted>
+    ensures { result ≡ count_answer hits (any_takes_part (marks_in marks.now) n) }
 {
     if 0 < hits {
         return Ok(hits);
@@ -232,7 +245,7 @@ fn count_answer(hits: usize, marks: &[u8], n: usize) -> Result<usize, Unlisted>
 fn list_in<const N: usize>(
     index: Index,
     arrays: &Lent<'_>,
-    marks: &[u8],
+    marks: &[u64],
     query: &[f32],
     k: usize,
     slots: &mut [u32],
@@ -241,7 +254,7 @@ fn list_in<const N: usize>(
     requires is_ready { ready index.n index.bits index.working_dim (length query.now) ≡ true }
     requires room { (index.n ≤ N) × (N ≤ 65536) }
     ensures { ListsHits (slot_score_in index (contents arrays.now) (query_of query.now))
-        marks.now index.n k slots.old slots.new scores.old scores.new result }
+        (marks_in marks.now) index.n k slots.old slots.new scores.old scores.new result }
 {
     let n = index.n;
     let mut score_places = [0.0f32; N];
@@ -259,19 +272,19 @@ fn list_in<const N: usize>(
 pub fn list(
     index: Index,
     arrays: &Lent<'_>,
-    marks: &[u8],
+    marks: &[u64],
     query: &[f32],
     k: usize,
     slots: &mut [u32],
     scores: &mut [f32],
 ) -> Result<usize, Unlisted>
     ensures answer { result ≡ list_answer (slot_score_in index (contents arrays.now) (query_of query.now))
-        marks.now index.n (ready index.n index.bits index.working_dim (length query.now)) k
+        (marks_in marks.now) index.n (ready index.n index.bits index.working_dim (length query.now)) k
         (min (length slots.old) (length scores.old)) }
     ensures slots_after { slots.new ≡ over (map (λ e. e.0)
-        (shown (slot_score_in index (contents arrays.now) (query_of query.now)) marks.now index.n k result)) slots.old }
+        (shown (slot_score_in index (contents arrays.now) (query_of query.now)) (marks_in marks.now) index.n k result)) slots.old }
     ensures scores_after { scores.new ≡ over (map (λ e. e.1)
-        (shown (slot_score_in index (contents arrays.now) (query_of query.now)) marks.now index.n k result)) scores.old }
+        (shown (slot_score_in index (contents arrays.now) (query_of query.now)) (marks_in marks.now) index.n k result)) scores.old }
 {
     if !is_ready(index, query.len()) {
         return Err(Unlisted::Unable);

@@ -4,28 +4,31 @@ use mathlib.Core.Bool.{Bool, true, false, not, cond, ◌||◌}
 use mathlib.Core.List.{List, [], ◌∷◌, map, map-map}
 use mathlib.Core.Option.{none, some}
 use mathlib.Core.Logic.{◌↔◌}
-use Prim.Native.Nat.{ℕ, zero, suc, ◌*◌, ◌≤◌, ◌<◌}
+use Prim.Native.Nat.{ℕ, zero, suc, ◌+◌, ◌-◌, ◌*◌, ◌≤◌, ◌<◌}
 use native.Mathlib.Nat.{suc-mul, mul-le-mul_right}
 use native.Mathlib.Omega.{arith}
-use lib.ListN.{length, get_or}
+use lib.ListN.{length, get_or, drop, length-drop, length-map, get_or-eq_default}
+use lib.Seq.{get_or-drop}
+use native.Mathlib.Decide.{dec_lt}
 use lib.Dec.{T, leb, eqb}
 use borrow.Author.Tests.{leb-true, le-leb, eqb-true, eq-eqb}
 use Rattle.lists.specs.Lists.{tab, over, joined}
+use Rattle.marks.specs.Live.{no_marks}
 use Rattle.lists.specs.Keep.{bit, count, Each, all, every}
-use Rattle.lists.proofs.Laws.{length-tab, tab-ext}
-use Rattle.lists.proofs.Keep.{count-append, count_map, count_same, each-mem}
-use Rattle.lists.proofs.Front.{over-own, map-tab, tab-map, get_or-over-map, each_map, map_each, each-tab, tab-each}
+use Rattle.lists.proofs.Laws.{length-tab, tab-ext, get_or-tab}
+use Rattle.lists.proofs.Keep.{count-append, count_map, count_same, each-mem, each-get_or}
+use Rattle.lists.proofs.Front.{over-ext, over-own, get_or-rest, each_at, map-tab, tab-map, get_or-over-map, each_map, map_each, each-tab, tab-each}
 use Rattle.encode.specs.declared.Header.{Header}
 use Rattle.encode.specs.Header.{block_size}
 use Rattle.codes.specs.Stage.{Stage}
 use Rattle.codes.specs.Slots.{block_at}
 use Rattle.index.specs.declared.Index.{Index}
-use Rattle.index.specs.Arrays.{Arrays}
+use Rattle.index.specs.Arrays.{Arrays, unmarked}
 use Rattle.index.specs.State.{Mark, dead, unkeyed, keyed, Slot, State, is_live, live, header_of, capacity, mark_of, stage_at, slot_at, state_of, record_of, alive_of, has_key, key_word, position, seconds, scales_of, blocks_of, overlay, with_counts}
-use Rattle.index.specs.Fit.{Row, row_at, rows, positioned, fit}
+use Rattle.index.specs.Fit.{Row, row_at, rows, positioned, fit_by_mark, none_from, fit}
 use Rattle.index.specs.Sound.{block_length, Shaped, AllShaped, marks, OnceEach, Ranged, Sound}
 use Rattle.index.proofs.Blocks.{over-blocks, length-block}
-use Rattle.index.proofs.Overlay.{roomy, second_of, plain-seconds, residual-seconds, overlay-capacity, read_back}
+use Rattle.index.proofs.Overlay.{roomy, second_of, plain-seconds, residual-seconds, overlay-capacity, unmarked-capacity, read_back}
 use Rattle.lists.proofs.Tests.{and_left, and_right}
 use Rattle.index.proofs.Marks.{row_of, once-positioned, positioned-once}
 
@@ -60,12 +63,13 @@ pub record Fitting (x : Index) (a : Arrays) : Type 0 where
   pub live : x.live ≡ count (λ r. eqb r.alive 1) (rows x a)
   pub keyed : Each (λ r. (not r.keyed || eqb r.alive 1) ≡ true) (rows x a)
   pub positions : Each (λ r. positioned (rows x a) r ≡ true) (rows x a)
+  pub clear : none_from x.n a.alive ≡ true
 
 module _ (x : Index) (a : Arrays) where
   pub fitting : fit x a ≡ true → Fitting x a
-  unfolding fit
+  unfolding fit fit_by_mark
   fitting e =
-      let t = every-each _ e in
+      let t = every-each _ (and_left (fit_by_mark x a) (none_from x.n a.alive) e) in
       record {
         header = record { dim = t.0; working_dim = t.1.0; bits = t.1.1.0; residual = t.1.1.1.0 };
         space = leb-true x.n (capacity (header_of x) a) t.1.1.1.1.0;
@@ -73,11 +77,12 @@ module _ (x : Index) (a : Arrays) where
         live = eqb-true x.live (count (λ r. eqb r.alive 1) (rows x a)) t.1.1.1.1.1.1.0;
         keyed = all-each (λ r. not r.keyed || eqb r.alive 1) (rows x a) t.1.1.1.1.1.1.1.0;
         positions = all-each (positioned (rows x a)) (rows x a) t.1.1.1.1.1.1.1.1.0;
+        clear = and_right (fit_by_mark x a) (none_from x.n a.alive) e;
       }
 
-  pub fitting-fit : Fitting x a → fit x a ≡ true
-  unfolding fit
-  fitting-fit f =
+  by-mark : Fitting x a → fit_by_mark x a ≡ true
+  unfolding fit_by_mark
+  by-mark f =
       each-every _ (
         f.header.dim,
         (
@@ -100,6 +105,41 @@ module _ (x : Index) (a : Arrays) where
           ),
         ),
       )
+
+  pub fitting-fit : Fitting x a → fit x a ≡ true
+  unfolding fit
+  fitting-fit f = rw (by-mark f, f.clear)
+
+-- ---- no mark past the slots in use
+
+module _ (n : ℕ) (ms : List ℕ) where
+  pub none-past : none_from n ms ≡ true → (i : ℕ) → n ≤ i → get_or ms i 0 ≡ 0
+  unfolding none_from
+  none-past e i l =
+      elim (dec_lt i (length ms)) [
+        | yes k ↦
+            let j : n + (i - n) ≡ i = omega arith in
+            let t = each_at (λ m. eqb 0 m ≡ true) (drop n ms) (i - n) 0 (all-each (eqb 0) (drop n ms) e) (rw (length-drop n ms) (omega arith)) in
+            ap (λ (m : ℕ). get_or ms m 0) (sym j) ∙ sym (get_or-drop n ms (i - n) 0) ∙ sym (eqb-true 0 (get_or (drop n ms) (i - n) 0) t)
+        | no k ↦ get_or-eq_default ms 0 {n = i} (omega arith)
+      ]
+
+  pub past-none : ((i : ℕ) → n ≤ i → get_or ms i 0 ≡ 0) → none_from n ms ≡ true
+  unfolding none_from
+  past-none h =
+      each_all (eqb 0) (drop n ms)
+      (each-get_or (λ m. eqb 0 m ≡ true) 0 (drop n ms) (λ i l. eq-eqb 0 (get_or (drop n ms) i 0) (sym (get_or-drop n ms i 0 ∙ h (n + i) (omega arith)))))
+
+-- marks laid over none: none is set past them
+pub none_over : (ys ms : List ℕ) → none_from (length ys) (over ys (no_marks ms)) ≡ true
+none_over ys ms = past-none (length ys) (over ys (no_marks ms)) (λ i l. get_or-rest ys (no_marks ms) i 0 l ∙ unset i)
+  where
+    unset : (i : ℕ) → get_or (no_marks ms) i 0 ≡ 0
+    unset i =
+        elim (dec_lt i (length ms)) [
+          | yes k ↦ get_or-tab (λ j. 0) (length ms) i 0 k
+          | no k ↦ get_or-eq_default (no_marks ms) 0 {n = i} (rw (length-tab {A = ℕ} (λ j. 0) (length ms)) (omega arith))
+        ]
 
 -- ---- the value of arrays with room, and its slots' shape
 
@@ -180,7 +220,18 @@ module _ (x : Index) (a : Arrays) (f : Fitting x a) where
       (tab-each (λ r. (not r.keyed || eqb r.alive 1) ≡ true) (row_at a) x.n f.keyed i l)
       (tab-each (λ r. positioned (rows x a) r ≡ true) (row_at a) x.n f.positions i l)
 
-  overlay-own : overlay a (state_of x a).slots ≡ a
+  -- its own marks over none
+  own-alive : over (map (λ s. alive_of s.mark) (slots head a x.n f.space)) (no_marks a.alive) ≡ a.alive
+  unfolding slot_at
+  own-alive =
+      let room : x.n ≤ length a.alive = (roomy x.n head a f.space).alive in
+      let long : length (no_marks a.alive) ≡ length a.alive = length-tab (λ i. 0) (length a.alive) in
+      rw (map-tab (λ (s : Slot). alive_of s.mark) (slot_at head a) x.n)
+      (sym (over-ext (λ i. alive_of (slot_at head a i).mark) x.n 0 (no_marks a.alive) a.alive (omega (arith, long, room)) (sym long)
+      (λ i l. sym (own_at i l).alive)
+      (λ i l k. none-past x.n a.alive f.clear i l ∙ sym (get_or-tab (λ j. 0) (length a.alive) i 0 (omega (arith, long, k))))))
+
+  overlay-own : overlay (unmarked a) (state_of x a).slots ≡ a
   unfolding overlay state_of slot_at row_at over joined
   overlay-own =
       let r = roomy x.n head a f.space in
@@ -190,7 +241,7 @@ module _ (x : Index) (a : Arrays) (f : Fitting x a) where
         keys = own-marks head a x.n f.space key_word a.keys 0 r.keys (λ i l. (own_at i l).word) j;
         keyed = own-marks head a x.n f.space has_key a.keyed false r.keyed (λ i l. (own_at i l).keyed) j;
         held = own-marks head a x.n f.space position a.held 0 r.held (λ i l. (own_at i l).held) j;
-        alive = own-marks head a x.n f.space alive_of a.alive 0 r.alive (λ i l. (own_at i l).alive) j;
+        alive = own-alive j;
         codes2 = codes2 x.residual refl j;
         scales2 = scales2 x.residual refl j;
       }
@@ -239,7 +290,7 @@ mark-keyed (keyed k p) = refl
 
 -- ---- the laws
 
-pub overlay-self : (x : Index) (a : Arrays) → fit x a ≡ true → overlay a (state_of x a).slots ≡ a
+pub overlay-self : (x : Index) (a : Arrays) → fit x a ≡ true → overlay (unmarked a) (state_of x a).slots ≡ a
 overlay-self x a e = overlay-own x a (fitting x a e)
 
 pub record-self : (x : Index) (a : Arrays) → fit x a ≡ true → record_of (state_of x a) ≡ x
@@ -250,7 +301,7 @@ pub fit-sound : (x : Index) (a : Arrays) → fit x a ≡ true → Sound (capacit
 unfolding state_of
 fit-sound x a e =
     let f = fitting x a e in
-    let same : rows x a ≡ map row_of (marks (state_of x a).slots) = ap₂ rows (sym (record-self x a e)) (sym (overlay-self x a e)) ∙ rows_back (state_of x a) a in
+    let same : rows x a ≡ map row_of (marks (state_of x a).slots) = ap₂ rows (sym (record-self x a e)) (sym (overlay-self x a e)) ∙ rows_back (state_of x a) (unmarked a) in
     record {
       header = f.header;
       space = rw (length-tab (slot_at (header_of x) a) x.n) f.space;
@@ -261,31 +312,45 @@ fit-sound x a e =
           (subst (λ (rs : List Row). Each (λ r. positioned rs r ≡ true) rs) same f.positions));
     }
 
+-- a value laid over arrays in which no slot is marked: no mark is set past its slots
+pub none-laid : (s : State) (a : Arrays) → none_from (record_of s).n (overlay (unmarked a) s.slots).alive ≡ true
+unfolding record_of overlay
+none-laid s a =
+    subst (λ (n : ℕ). none_from n (over (map (λ t. alive_of t.mark) s.slots) (no_marks a.alive)) ≡ true) (length-map s.slots (λ t. alive_of t.mark))
+    (none_over (map (λ t. alive_of t.mark) s.slots) a.alive)
+
+-- and it is read back
+pub laid-back : (s : State) (a : Arrays) → AllShaped s.header s.slots → length s.slots ≤ capacity s.header a →
+    state_of (record_of s) (overlay (unmarked a) s.slots) ≡ s
+laid-back s a shape space = read_back s (unmarked a) shape (rw (unmarked-capacity s.header a) space)
+
 -- a sound value fits
-pub sound-fit : (s : State) (a : Arrays) → Sound (capacity s.header a) s → fit (record_of s) (overlay a s.slots) ≡ true
+pub sound-fit : (s : State) (a : Arrays) → Sound (capacity s.header a) s → fit (record_of s) (overlay (unmarked a) s.slots) ≡ true
 unfolding record_of
 sound-fit s a t =
     let ms = marks s.slots in
-    fitting-fit (record_of s) (overlay a s.slots)
+    let room : length s.slots ≤ capacity s.header (unmarked a) = rw (unmarked-capacity s.header a) t.space in
+    fitting-fit (record_of s) (overlay (unmarked a) s.slots)
     (record {
       header = t.header;
-      space = rw (overlay-capacity s.header a s.slots t.shape t.space) t.space;
-      alive = rw (rows_back s a) (each_map (λ r. leb r.alive 1 ≡ true) row_of ms (each-mem (λ m. leb (alive_of m) 1 ≡ true) ms (λ m e. mark-alive m)));
+      space = rw (overlay-capacity s.header (unmarked a) s.slots t.shape room) room;
+      alive = rw (rows_back s (unmarked a)) (each_map (λ r. leb r.alive 1 ≡ true) row_of ms (each-mem (λ m. leb (alive_of m) 1 ≡ true) ms (λ m e. mark-alive m)));
       live =
-          rw (rows_back s a)
+          rw (rows_back s (unmarked a))
           (count_same live (λ (u : Slot). eqb (alive_of u.mark) 1) s.slots (each-mem (λ (u : Slot). live u ≡ eqb (alive_of u.mark) 1) s.slots (λ u e. mark-live u.mark))
           ∙ sym (count_map row_of (λ r. eqb r.alive 1) ms ∙ count_map (λ (u : Slot). u.mark) (λ m. eqb (alive_of m) 1) s.slots));
-      keyed = rw (rows_back s a) (each_map (λ r. (not r.keyed || eqb r.alive 1) ≡ true) row_of ms (each-mem (λ m. (not (has_key m) || eqb (alive_of m) 1) ≡ true) ms (λ m e. mark-keyed m)));
-      positions = rw (rows_back s a) (each_map (λ r. positioned (map row_of ms) r ≡ true) row_of ms (once-positioned ms t.positions));
+      keyed = rw (rows_back s (unmarked a)) (each_map (λ r. (not r.keyed || eqb r.alive 1) ≡ true) row_of ms (each-mem (λ m. (not (has_key m) || eqb (alive_of m) 1) ≡ true) ms (λ m e. mark-keyed m)));
+      positions = rw (rows_back s (unmarked a)) (each_map (λ r. positioned (map row_of ms) r ≡ true) row_of ms (once-positioned ms t.positions));
+      clear = none-laid s a;
     })
 
 -- For slots of the header's shape and arrays with room for them, no misfit means a header in range and positions once each.
 pub fit-value : (s : State) (a : Arrays) → AllShaped s.header s.slots → length s.slots ≤ capacity s.header a →
-    (fit (record_of s) (overlay a s.slots) ≡ true) ↔ (Ranged s.header × OnceEach (marks s.slots))
+    (fit (record_of s) (overlay (unmarked a) s.slots) ≡ true) ↔ (Ranged s.header × OnceEach (marks s.slots))
 fit-value s a shape space = (only, λ r. sound-fit s a (record { header = r.0; space = space; shape = shape; positions = r.1 }))
   where
-    only : fit (record_of s) (overlay a s.slots) ≡ true → Ranged s.header × OnceEach (marks s.slots)
+    only : fit (record_of s) (overlay (unmarked a) s.slots) ≡ true → Ranged s.header × OnceEach (marks s.slots)
     only e =
-        let t = fit-sound (record_of s) (overlay a s.slots) e in
-        let b = read_back s a shape space in
+        let t = fit-sound (record_of s) (overlay (unmarked a) s.slots) e in
+        let b = laid-back s a shape space in
         (subst (λ (u : State). Ranged u.header) b t.header, subst (λ (u : State). OnceEach (marks u.slots)) b t.positions)

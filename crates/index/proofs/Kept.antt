@@ -14,17 +14,17 @@ use Rattle.lists.proofs.Front.{each_map}
 use Rattle.encode.specs.declared.Header.{Header}
 use Rattle.encode.specs.Coded.{fault, no_spare, spare_of}
 use Rattle.index.specs.declared.Index.{Index}
-use Rattle.index.specs.Arrays.{Arrays}
+use Rattle.index.specs.Arrays.{Arrays, unmarked}
 use Rattle.index.specs.State.{Mark, dead, unkeyed, keyed, Slot, State, live, header_of, capacity, state_of, new_slot, with_mark, with_bits}
 use Rattle.index.specs.Fit.{fit}
 use Rattle.index.specs.Codec.{encoded}
 use Rattle.index.specs.Step.{Op, set_bits, add, add_keyed, add_multi, relabel, remove, remove_at, key_of, contains, slot_of, enable, score, search, search_keyed, search_cascade, compact, file_length, write, Item, Answer, refused, done, flag, slot, first_of, when, unless, Cell, live_from, holds, holds_at, number_where, slot_holding, held_by, is_held, on_mark, relabelled, gap_filled, position_of, overwritten, one_more, rising, compacted, Outcome, answered, with_slots, guarded, appended, remarked, width_set, step}
 use Rattle.index.specs.Call.{call}
 use Rattle.index.specs.Sound.{Shaped, AllShaped, marks, OnceEach, Ranged, Sound}
-use Rattle.index.proofs.Overlay.{SameLengths, overlay-lengths, read_back}
+use Rattle.index.proofs.Overlay.{SameLengths, same-lengths, overlay-lengths, unmarked-lengths, unmarked-capacity}
 use Rattle.lists.proofs.Tests.{and_right}
 use Rattle.index.proofs.Marks.{bit-one}
-use Rattle.index.proofs.Fits.{fit-sound, sound-fit}
+use Rattle.index.proofs.Fits.{fit-sound, sound-fit, laid-back}
 use Rattle.index.proofs.Refusals.{either_way}
 use Rattle.index.proofs.Encoded.{encoded-shaped}
 use Rattle.index.proofs.Changes.{once-unkeyed, once-keyed, once-removed, once-relabelled-same, once-relabelled, once-filled, once-compacted}
@@ -261,8 +261,10 @@ module _ (x : Index) (a : Arrays) (op : Op) (e : fit x a ≡ true) where
 
   pub call-state : state_of (call x a op).index (call x a op).arrays ≡ (step (capacity (header_of x) a) (state_of x a) op).state
   unfolding call
-  call-state = rw e (read_back (step (capacity (header_of x) a) (state_of x a) op).state a after.shape after.space)
+  call-state = rw e (laid-back (step (capacity (header_of x) a) (state_of x a) op).state a after.shape after.space)
 
   pub call-lengths : SameLengths (call x a op).arrays a
   unfolding call
-  call-lengths = rw e (overlay-lengths (step (capacity (header_of x) a) (state_of x a) op).state.header a (step (capacity (header_of x) a) (state_of x a) op).state.slots after.shape after.space)
+  call-lengths =
+      let s = (step (capacity (header_of x) a) (state_of x a) op).state in
+      rw e (same-lengths (overlay-lengths s.header (unmarked a) s.slots after.shape (rw (unmarked-capacity s.header a) after.space)) (unmarked-lengths a))

@@ -10,9 +10,11 @@ pub mod Kept
 pub mod Calls
 pub mod Determined
 pub mod Places
+pub mod Make
 pub mod Read
 pub mod Questions
 pub mod Appends
 pub mod Passed
 pub mod Ties
 pub mod OneTrait
+pub mod LiveBits

@@ -36,7 +36,7 @@ use Rattle.score.proofs.OneTrait.{lone-code, scored-by-trait}
 use Rattle.index.specs.declared.Index.{Index}
 use Rattle.index.specs.Arrays.{Arrays}
 use Rattle.index.specs.State.{Slot, live, header_of, rooms, capacity, stage_at, slot_at, state_of, with_code}
-use Rattle.index.specs.Fit.{row_at, fit}
+use Rattle.index.specs.Fit.{row_at, fit_by_mark, fit}
 use Rattle.index.specs.Codec.{score_by_table, score_of, apart, distance_by_table, distance, table_of}
 use Rattle.index.specs.Step.{Op, score, search, search_keyed, search_cascade, Query, Answer, score_is, hits, first_of, when, unless, Cell, live_from, key_of_mark, Hit, hit_of, hits_of, rank, query_refusal, short_result, by_slot, searched, nearer, candidates, wide, searched_cascade, score_answer, step}
 use Rattle.index.specs.Call.{call, Result}
@@ -181,7 +181,7 @@ module _ (x : Index) (a : Arrays) (one : one_trait (header_of x) ≡ true) where
   low = with_codes a (high_cleared a.codes) (high_cleared a.codes2)
 
   fit_low : fit x low ≡ fit x a
-  unfolding fit rooms row_at
+  unfolding fit fit_by_mark rooms row_at
   fit_low = rw (length-map a.codes (λ b. b % 16), length-map a.codes2 (λ b. b % 16))
 
   slot-low : (i : ℕ) → slot_at h low i ≡ low_slot (slot_at h a i)

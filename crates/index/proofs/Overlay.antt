@@ -9,13 +9,13 @@ use native.Mathlib.Omega.{arith}
 use lib.ListN.{length, get_or, length-map, get_or-map}
 use Rattle.lists.specs.Lists.{tab, over, joined}
 use Rattle.lists.specs.Keep.{Each}
-use Rattle.lists.proofs.Laws.{length_over}
+use Rattle.lists.proofs.Laws.{length-tab, length_over}
 use Rattle.lists.proofs.Keep.{each_weaken}
 use Rattle.lists.proofs.Front.{tab-is, get_or-over-map, each_map, each_at}
 use Rattle.encode.specs.declared.Header.{Header}
 use Rattle.encode.specs.Header.{block_size}
 use Rattle.codes.specs.Stage.{Stage}
-use Rattle.index.specs.Arrays.{Arrays}
+use Rattle.index.specs.Arrays.{Arrays, unmarked}
 use Rattle.index.specs.State.{Mark, dead, unkeyed, keyed, Slot, State, rooms, least, capacity, mark_of, stage_at, slot_at, state_of, record_of, alive_of, has_key, key_word, position, seconds, scales_of, blocks_of, overlay}
 use Rattle.index.specs.Sound.{Shaped, AllShaped, block_length}
 use Rattle.index.proofs.Blocks.{block-over, length-over-blocks}
@@ -133,6 +133,19 @@ pub record SameLengths (a b : Arrays) : Type 0 where
   pub codes2 : length a.codes2 ≡ length b.codes2
   pub scales2 : length a.scales2 ≡ length b.scales2
 
+pub same-lengths : {a b c : Arrays} → SameLengths a b → SameLengths b c → SameLengths a c
+same-lengths e f =
+    record {
+      codes = e.codes ∙ f.codes;
+      scales = e.scales ∙ f.scales;
+      keys = e.keys ∙ f.keys;
+      keyed = e.keyed ∙ f.keyed;
+      held = e.held ∙ f.held;
+      alive = e.alive ∙ f.alive;
+      codes2 = e.codes2 ∙ f.codes2;
+      scales2 = e.scales2 ∙ f.scales2;
+    }
+
 pub same-rooms : (h : Header) (a b : Arrays) → SameLengths a b → rooms h a ≡ rooms h b
 unfolding rooms
 same-rooms h a b e = rw (e.codes, e.scales, e.keys, e.keyed, e.held, e.alive, e.codes2, e.scales2)
@@ -217,3 +230,12 @@ module _ (h : Header) (a : Arrays) (ss : List Slot) (shape : AllShaped h ss) (sp
 pub read_back : (s : State) (a : Arrays) → AllShaped s.header s.slots → length s.slots ≤ capacity s.header a → state_of (record_of s) (overlay a s.slots) ≡ s
 unfolding state_of record_of
 read_back s a shape space = λ i. record { header = s.header; cascade = s.cascade; slots = slots-back s.header a s.slots shape space i }
+
+-- ---- arrays in which no slot is marked
+
+pub unmarked-lengths : (a : Arrays) → SameLengths (unmarked a) a
+unmarked-lengths a =
+    record { codes = refl; scales = refl; keys = refl; keyed = refl; held = refl; alive = length-tab (λ i. 0) (length a.alive); codes2 = refl; scales2 = refl }
+
+pub unmarked-capacity : (h : Header) (a : Arrays) → capacity h (unmarked a) ≡ capacity h a
+unmarked-capacity h a = ap (least 65536) (same-rooms h (unmarked a) a (unmarked-lengths a))

@@ -18,18 +18,18 @@ use Rattle.lists.proofs.Front.{each-tab}
 use Rattle.encode.specs.Header.{block_size}
 use Rattle.index.specs.declared.Index.{Index}
 use Rattle.index.specs.Verdict.{Verdict, granted, turned_down}
-use Rattle.index.specs.Arrays.{Arrays}
+use Rattle.index.specs.Arrays.{Arrays, unmarked}
 use Rattle.index.specs.State.{Mark, dead, unkeyed, keyed, Slot, is_live, live, capacity, state_of, record_of, overlay, with_mark}
 use Rattle.index.specs.Fit.{between, fit}
 use Rattle.index.specs.Step.{first_of, key_of_mark, one_more, rising, compacted}
 use Rattle.index.specs.Sound.{block_length, Shaped, AllShaped, marks, OnceEach, Ranged, Sound}
 use Rattle.index.specs.Form.{form_of, stages_at, second_at, keys_at, end_at}
-use Rattle.index.specs.Read.{version_in, form_in, dim_in, count_in, working_field, header_in, head_fault, stage_from, well_keyed, key_from, mark_from, first_length, second_length, stages_in, second_in, table_in, table_length, stated_end, tail_in, entries_in, slot_in, slots_in, state_in, read_refusal, read_unless, read_into}
+use Rattle.index.specs.Read.{version_in, form_in, dim_in, count_in, working_field, header_in, head_fault, stage_from, well_keyed, key_from, mark_from, first_length, second_length, stages_in, second_in, table_in, table_length, stated_end, tail_in, entries_in, slot_in, slots_in, state_in, read_refusal, read_into}
 use Rattle.index.proofs.Blocks.{length-block}
-use Rattle.index.proofs.Overlay.{read_back}
-use Rattle.index.proofs.Fits.{sound-fit}
+use Rattle.index.proofs.Fits.{sound-fit, laid-back}
 use Rattle.index.proofs.Changes.{once-compacted}
 use Rattle.index.proofs.Kept.{first-none, when-none, rising-length, rising-shaped}
+use Rattle.index.specs.Make.{begun_unless}
 
 -- ---- what was passed
 
@@ -256,14 +256,14 @@ module _ (a : Arrays) (file : List ℕ) where
   pub record ReadAs (x : Index) : Type 0 where
     pub passed : Accepted file a
     pub record_is : x ≡ record_of (state_in file)
-    pub arrays-are : (read_into a file).arrays ≡ overlay a (slots_in file)
+    pub arrays-are : (read_into a file).arrays ≡ overlay (unmarked a) (slots_in file)
 
   pub read-accepted : (x : Index) → (read_into a file).answer ≡ granted x → ReadAs x
   unfolding read_into
   read-accepted x e = go (read_refusal file a) refl e
     where
-      go : (n : ℕ) → read_refusal file a ≡ n → (read_unless n a file).answer ≡ granted x → ReadAs x
-      go zero f g = record { passed = accepted file a f; record_is = sym (ap (record_in x) g); arrays-are = ap (λ (m : ℕ). (read_unless m a file).arrays) f }
+      go : (n : ℕ) → read_refusal file a ≡ n → (begun_unless n (record_of (state_in file)) a (overlay (unmarked a) (slots_in file))).answer ≡ granted x → ReadAs x
+      go zero f g = record { passed = accepted file a f; record_is = sym (ap (record_in x) g); arrays-are = ap (λ (m : ℕ). (begun_unless m (record_of (state_in file)) a (overlay (unmarked a) (slots_in file))).arrays) f }
       go (suc n) f g = absurd (omega (arith, ap is_made g))
 
   module _ (x : Index) (e : (read_into a file).answer ≡ granted x) where
@@ -280,4 +280,4 @@ module _ (a : Arrays) (file : List ℕ) where
     read-value =
         let r = read-accepted x e in
         let t = read-sound file a r.passed in
-        ap₂ state_of r.record_is r.arrays-are ∙ read_back (state_in file) a t.shape t.space
+        ap₂ state_of r.record_is r.arrays-are ∙ laid-back (state_in file) a t.shape t.space

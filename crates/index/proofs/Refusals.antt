@@ -15,7 +15,7 @@ use Rattle.choose.specs.Choose.{choose}
 use Rattle.encode.specs.declared.Header.{Header}
 use Rattle.encode.specs.Coded.{fault}
 use Rattle.index.specs.declared.Index.{Index}
-use Rattle.index.specs.Arrays.{Arrays}
+use Rattle.index.specs.Arrays.{Arrays, unmarked}
 use Rattle.index.specs.State.{Mark, keyed, Slot, State, header_of, capacity, state_of, record_of, overlay}
 use Rattle.index.specs.Codec.{score_of}
 use Rattle.index.specs.Fit.{fit}
@@ -103,7 +103,7 @@ refused-unchanged x a op n e = go (fit x a) refl
         let same : (step (capacity (header_of x) a) (state_of x a) op).state ≡ state_of x a = (step_stays (state_of x a) (capacity (header_of x) a) op).state n (rw f at e) in
         record {
           index = rw f (ap record_of same ∙ record-self x a f);
-          arrays = rw f (ap (λ (t : State). overlay a t.slots) same ∙ overlay-self x a f);
+          arrays = rw f (ap (λ (t : State). overlay (unmarked a) t.slots) same ∙ overlay-self x a f);
         }
 
 -- ---- which numbers are given: none is 0, so that a call for C can answer 0 where there is none, and none is 10

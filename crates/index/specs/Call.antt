@@ -1,7 +1,7 @@
 -- A call on the record and the lent arrays: what every contract and the theorem on histories cite.
 use Rattle.std.specs.Prelude.{cond}
 use Rattle.index.specs.declared.Index.{Index}
-use Rattle.index.specs.Arrays.{Arrays}
+use Rattle.index.specs.Arrays.{Arrays, unmarked}
 use Rattle.index.specs.State.{header_of, capacity, state_of, record_of, overlay}
 use Rattle.index.specs.Fit.{misfit}
 use Rattle.index.specs.Step.{Op, Answer, refused, Outcome, step}
@@ -12,8 +12,9 @@ pub record Result : Type 0 where
   pub arrays : Arrays
   pub answer : Answer
 
+-- 02, Req 02: "Every accepted call, compaction too, leaves 0 in all bits at or above the slots in use", so slots are laid over arrays in which none is marked as live.
 abbrev pub laid_over : Arrays → Outcome → Result
-laid_over a o = record { index = record_of o.state; arrays = overlay a o.state.slots; answer = o.answer }
+laid_over a o = record { index = record_of o.state; arrays = overlay (unmarked a) o.state.slots; answer = o.answer }
 
 -- 01: 13 "comes first". Else the call is that of the value which the record and the arrays stand for.
 unfoldable pub call : Index → Arrays → Op → Result

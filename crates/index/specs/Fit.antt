@@ -1,7 +1,8 @@
 -- Refusal 13, "record and lent arrays misfit", for the index's part. Document 01: "13 means exactly: an array too short (the index's, for the slots in use; ..), a record
 -- field outside its range, a residual record of width 5 or 6, over 65,536 slots in use, a live mark other than 0 or 1, a wrong live count, a key on a dead slot, or a key's t
--- slots not holding positions 0 to t-1 once each (unkeyed and dead hold 0)."
-use Rattle.std.specs.Prelude.{Bool, false, not, cond, ◌&&◌, ◌||◌, List, [], ◌∷◌, ℕ, get_or, leb, ltb, eqb}
+-- slots not holding positions 0 to t-1 once each (unkeyed and dead hold 0)." Document 02, Req 02: "In 13, 'a mark other than 0 or 1' becomes a bit set there", at or above the
+-- slots in use.
+use Rattle.std.specs.Prelude.{Bool, false, not, cond, ◌&&◌, ◌||◌, List, [], ◌∷◌, ℕ, get_or, drop, leb, ltb, eqb}
 use Rattle.lists.specs.Lists.{tab}
 use Rattle.index.specs.declared.Index.{Index}
 use Rattle.index.specs.Arrays.{Arrays}
@@ -35,19 +36,28 @@ unfoldable pub positioned : List Row → Row → Bool
 positioned rs r =
     cond r.keyed (ltb r.held (count (of_key r.key) rs) && eqb (count (of_key_at r.key r.held) rs) 1) (eqb r.held 0)
 
-unfoldable pub fit : Index → Arrays → Bool
-fit x a =
+-- 01's sentence, over one mark a slot
+unfoldable pub fit_by_mark : Index → Arrays → Bool
+fit_by_mark x a =
     every
     (between 1 4096 x.dim  -- a record field outside its range
     ∷ between 1 x.dim x.working_dim
     ∷ between 4 6 x.bits
     ∷ (not x.residual || eqb x.bits 4)  -- a residual record of width 5 or 6
     ∷ leb x.n (capacity (header_of x) a)  -- an array too short for the slots in use; over 65,536 slots in use
-    ∷ all (λ r. leb r.alive 1) (rows x a)  -- a live mark other than 0 or 1
+    ∷ all (λ r. leb r.alive 1) (rows x a)  -- a live mark other than 0 or 1: of bits there is none
     ∷ eqb x.live (count (λ r. eqb r.alive 1) (rows x a))  -- a wrong live count
     ∷ all (λ r. not r.keyed || eqb r.alive 1) (rows x a)  -- a key on a dead slot
     ∷ all (positioned (rows x a)) (rows x a)  -- positions; unkeyed and dead hold 0
     ∷ [])
+
+-- whether no mark is set at or above the first n slots, in any lent word
+unfoldable pub none_from : (n : ℕ) → (marks : List ℕ) → Bool
+none_from n ms = all (eqb 0) (drop n ms)
+
+-- document 02, Req 02, "a bit set there": a mark set at or above the slots in use is a misfit too
+unfoldable pub fit : Index → Arrays → Bool
+fit x a = fit_by_mark x a && none_from x.n a.alive
 
 abbrev pub misfit : Index → Arrays → Bool
 misfit x a = not (fit x a)

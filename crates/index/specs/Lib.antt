@@ -16,3 +16,4 @@ pub mod OneTrait
 pub mod History
 pub mod Sound
 pub mod Read
+pub mod LiveBits

@@ -1,9 +1,9 @@
--- Making an index: `new`, `with_working_dim`, `with_residual`. They are lent the arrays, which stay as they are.
+-- Making an index: `new`, `with_working_dim`, `with_residual`. They are lent the arrays, of which an accepted call clears the live marks: no slot is in use.
 use Rattle.std.specs.Prelude.{Bool, false, not, cond, ◌&&◌, [], ◌∷◌, ℕ, zero, suc, eqb}
 use Rattle.encode.specs.declared.Header.{Header}
 use Rattle.index.specs.declared.Index.{Index}
 use Rattle.index.specs.Verdict.{Verdict, granted, turned_down}
-use Rattle.index.specs.Arrays.{Arrays}
+use Rattle.index.specs.Arrays.{Arrays, unmarked}
 use Rattle.index.specs.State.{State, capacity, record_of}
 use Rattle.index.specs.Fit.{between}
 use Rattle.index.specs.Step.{first_of, when}
@@ -28,9 +28,10 @@ pub record Begun : Type 0 where
 abbrev pub begun : Verdict Index → Arrays → Begun
 begun r a = record { answer = r; arrays = a }
 
-abbrev pub make_unless : (refusal : ℕ) → Header → Arrays → Begun
-make_unless zero h a = begun (granted (record_of (empty h))) a
-make_unless (suc n) h a = begun (turned_down (suc n)) a
+-- a record with the arrays b, or the refusal with the arrays a, which were lent: "A refusal returns its number and changes nothing lent."
+abbrev pub begun_unless : (refusal : ℕ) → Index → (a b : Arrays) → Begun
+begun_unless zero x a b = begun (granted x) b
+begun_unless (suc n) x a b = begun (turned_down (suc n)) a
 
 unfoldable pub make : Header → Arrays → Begun
-make h a = make_unless (make_refusal h a) h a
+make h a = begun_unless (make_refusal h a) (record_of (empty h)) a (unmarked a)

@@ -1,6 +1,6 @@
 -- Reading: document 01, "format.rs, byte form", taken apart block by block in the order in which `file_of` puts them together, with what the file's version has. What
 -- follows the stated end counts for nothing here and is named `tail_in`.
-use Rattle.std.specs.Prelude.{Bool, false, not, cond, ◌&&◌, ◌||◌, List, [], ◌∷◌, map, ℕ, zero, suc, ◌+◌, ◌*◌, length, take, drop, ltb, eqb}
+use Rattle.std.specs.Prelude.{Bool, false, not, cond, ◌&&◌, ◌||◌, List, [], ◌∷◌, map, ℕ, ◌+◌, ◌*◌, length, take, drop, ltb, eqb}
 use Rattle.std.proofs.Math.Option.{Option, none, some}
 use Rattle.lists.specs.Lists.{tab}
 use Rattle.lists.specs.Keep.{count, all}
@@ -11,14 +11,13 @@ use Rattle.codes.specs.Stage.{Stage}
 use Rattle.encode.specs.declared.Header.{Header}
 use Rattle.encode.specs.Header.{block_size}
 use Rattle.index.specs.declared.Form.{Form}
-use Rattle.index.specs.Verdict.{granted, turned_down}
-use Rattle.index.specs.Arrays.{Arrays}
+use Rattle.index.specs.Arrays.{Arrays, unmarked}
 use Rattle.index.specs.State.{Mark, unkeyed, keyed, Slot, State, capacity, record_of, overlay}
 use Rattle.index.specs.Fit.{between}
 use Rattle.index.specs.Form.{form_of, stages_at, table_size, stage_size, end_at}
 use Rattle.index.specs.File.{magic}
 use Rattle.index.specs.Step.{first_of, when, rising}
-use Rattle.index.specs.Make.{Begun, begun}
+use Rattle.index.specs.Make.{Begun, begun_unless}
 
 -- ---- the head
 
@@ -171,10 +170,6 @@ module _ (file : List ℕ) where
       ∷ when (not (well_keyed (count_in file) (map (λ e. e.slot) entries_in))) 19
       ∷ [])
 
--- "A refusal returns its number and changes nothing lent." What is read stands over the first places, and all further places are kept.
-abbrev pub read_unless : (refusal : ℕ) → Arrays → (file : List ℕ) → Begun
-read_unless zero a file = begun (granted (record_of (state_in file))) (overlay a (slots_in file))
-read_unless (suc n) a file = begun (turned_down (suc n)) a
-
+-- What is read stands over the first places, and all further places are kept, but for live marks, which are 0.
 unfoldable pub read_into : Arrays → (file : List ℕ) → Begun
-read_into a file = read_unless (read_refusal file a) a file
+read_into a file = begun_unless (read_refusal file a) (record_of (state_in file)) a (overlay (unmarked a) (slots_in file))

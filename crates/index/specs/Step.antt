@@ -45,6 +45,20 @@ pub data Answer : Type 0 where
   size : ℕ → Answer
   bytes : List ℕ → Answer
 
+-- every answer but a refusal
+abbrev pub accepted : Answer → Bool
+accepted (refused n) = false
+accepted done = true
+accepted (flag b) = true
+accepted (slot i) = true
+accepted (maybe_slot o) = true
+accepted (maybe_key o) = true
+accepted (score_is x) = true
+accepted (hits xs) = true
+accepted (key_hits xs) = true
+accepted (size n) = true
+accepted (bytes bs) = true
+
 -- the first number that is not 0: the refusal that 01's order fixes; 0 where there is none
 unfoldable pub first_of : List ℕ → ℕ
 first_of [] = 0

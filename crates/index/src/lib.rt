@@ -27,7 +27,7 @@ pub struct Lent<'a> {
     pub keys: &'a [u64],
     pub keyed: &'a [bool],
     pub held: &'a [u32],
-    pub alive: &'a [u8],
+    pub alive: &'a [u64],
     pub codes2: &'a [u8],
     pub scales2: &'a [u32],
 }
@@ -40,7 +40,7 @@ pub struct LentMut<'a> {
     pub keys: &'a mut [u64],
     pub keyed: &'a mut [bool],
     pub held: &'a mut [u32],
-    pub alive: &'a mut [u8],
+    pub alive: &'a mut [u64],
     pub codes2: &'a mut [u8],
     pub scales2: &'a mut [u32],
 }

@@ -2,3 +2,4 @@
 pub mod Length
 pub mod Counting
 pub mod Numbers
+pub mod Words

@@ -4,6 +4,7 @@ use mathlib.Core.Bool.{Bool, false, cond}
 use mathlib.Core.List.{List, map}
 use mathlib.Core.Option.{Option, none, some}
 use Prim.Native.Nat.{ℕ, zero, suc, ◌<◌}
+use native.Mathlib.Omega.{arith}
 use lib.ListN.{length, get_or, replicate, length-replicate}
 use Rattle.lists.specs.Lists.{tab, over}
 use Rattle.lists.proofs.Laws.{length-tab, get_or-tab}
@@ -14,11 +15,12 @@ use Rattle.refusal.specs.Refusal.{fault_of}
 use Rattle.slot_keys.specs.Has.{key_at}
 use Rattle.index.specs.declared.Index.{Index}
 use Rattle.index.specs.Verdict.{Verdict, granted, turned_down, verdict}
-use Rattle.index.specs.Arrays.{Arrays, lent}
-use Rattle.index.specs.State.{Mark, keyed, has_key, key_word, overlay}
-use Rattle.index.specs.Make.{Begun, begun}
-use Rattle.index.specs.Read.{count_in, mark_from, key_from, entries_in, slot_in, slots_in, read_refusal, read_unless, read_into}
+use Rattle.index.specs.Arrays.{Arrays, lent, unmarked}
+use Rattle.index.specs.State.{Mark, keyed, has_key, key_word, overlay, record_of}
+use Rattle.index.specs.Make.{Begun, begun, begun_unless}
+use Rattle.index.specs.Read.{count_in, mark_from, key_from, entries_in, slot_in, slots_in, read_refusal, read_into, state_in}
 use Rattle.index.proofs.Overlay.{SameLengths}
+use Rattle.marks.proofs.Words.{length-marks}
 use Rattle.compact.proofs.Rising.{rising-map}
 use Rattle.listed.specs.Listing.{room}
 use Rattle.listed.proofs.Room.{as-large, refusal-same}
@@ -44,11 +46,11 @@ verdict-number (Err r) = refl
 
 -- the arrays of read_keys are as large as a listing's
 pub as-lent : (words : List ℕ) (flags : List Bool) → length words ≡ 1024 → length flags ≡ 1024 →
-    SameLengths (lent (replicate 32768 0) (replicate 1024 0) words flags (replicate 1024 0) (replicate 1024 0) (replicate 32768 0) (replicate 1024 0)) room
+    SameLengths (lent (replicate 32768 0) (replicate 1024 0) words flags (replicate 1024 0) (replicate 16 0) (replicate 32768 0) (replicate 1024 0)) room
 as-lent words flags w f =
     let bytes = length-replicate {A = ℕ} 32768 0 in
     let slots = length-replicate {A = ℕ} 1024 0 in
-    as-large _ bytes slots w f slots slots bytes slots
+    as-large _ bytes slots w f slots (omega (arith, length-marks (replicate {A = ℕ} 16 0), length-replicate {A = ℕ} 16 0)) bytes slots
 
 module _ (file : List ℕ) (a : Arrays) where
   marks-read : {B : Type 0} (g : Mark → B) → ((k p q : ℕ) → g (keyed k p) ≡ g (keyed k q)) → (xs : List B) (i : ℕ) (d : B) → i < count_in file
@@ -62,7 +64,8 @@ module _ (file : List ℕ) (a : Arrays) where
       (get_d_front (tab (λ j. g (mark_from (key_from (entries_in file) j))) n) xs i d (rw (length-tab (λ j. g (mark_from (key_from (entries_in file) j))) n) l)
       ∙ get_or-tab (λ j. g (mark_from (key_from (entries_in file) j))) n i d l)
 
-  keys-read : (i : ℕ) → i < count_in file → key_at (overlay a (slots_in file)).keys (overlay a (slots_in file)).keyed i ≡ key_from (entries_in file) i
+  keys-read : (i : ℕ) → i < count_in file →
+      key_at (overlay (unmarked a) (slots_in file)).keys (overlay (unmarked a) (slots_in file)).keyed i ≡ key_from (entries_in file) i
   unfolding overlay key_at
   keys-read i l =
       rw (marks-read has_key (λ k p q. refl) a.keyed i false l, marks-read key_word (λ k p q. refl) a.keys i 0 l) (mark-key (key_from (entries_in file) i))
@@ -73,13 +76,13 @@ module _ (file : List ℕ) (a : Arrays) where
   unfolding read_into
   answer-number = go (read_refusal file a)
     where
-      go : (n : ℕ) → number_in (read_unless n a file).answer ≡ n
+      go : (n : ℕ) → number_in (begun_unless n (record_of (state_in file)) a (overlay (unmarked a) (slots_in file))).answer ≡ n
       go zero = refl
       go (suc n) = refl
 
-  accepted-arrays : read_refusal file a ≡ 0 → (read_into a file).arrays ≡ overlay a (slots_in file)
+  accepted-arrays : read_refusal file a ≡ 0 → (read_into a file).arrays ≡ overlay (unmarked a) (slots_in file)
   unfolding read_into
-  accepted-arrays e = ap (λ (n : ℕ). (read_unless n a file).arrays) e
+  accepted-arrays e = ap (λ (n : ℕ). (begun_unless n (record_of (state_in file)) a (overlay (unmarked a) (slots_in file))).arrays) e
 
   module _ (r : Result Index Refusal) (b : Arrays) (e : begun (verdict r) b ≡ read_into a file) (s : SameLengths a room) where
     fault_is : fault_of r ≡ read_refusal file a

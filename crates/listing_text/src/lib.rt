@@ -35,7 +35,7 @@ fn read_keys(keys: &mut [u64], keyed: &mut [bool], file: &[u8]) -> Result<(), Re
     let mut codes = [0u8; 32768];
     let mut scales = [0u32; 1024];
     let mut held = [0u32; 1024];
-    let mut alive = [0u8; 1024];
+    let mut alive = [0u64; 16];
     let mut codes2 = [0u8; 32768];
     let mut scales2 = [0u32; 1024];
     let mut arrays = LentMut {

@@ -11,8 +11,8 @@ use lib.ListN.{length, get_or, set, take, drop, length-append, get_or-append, ta
 use lib.Seq.{ext_get_or, get_or-drop, get_or-append-add, length-take-le, take_at, drop_at, drop-append-add, drop-drop, sets-eq, length-sets}
 use Rattle.lists.specs.Lists.{tab, over, splice, below}
 use Rattle.lists.specs.Keep.{bit, keep, count, Each}
-use Rattle.lists.proofs.Laws.{length-tab, get_or-tab, tab-get_or, tab-ext, length_over}
-use Rattle.lists.proofs.Keep.{each_append, keep_append, length-keep}
+use Rattle.lists.proofs.Laws.{length-tab, get_or-tab, tab-get_or, tab-ext, tab-append, length_over}
+use Rattle.lists.proofs.Keep.{each_append, keep_append, length-keep, count-append, count_same}
 
 module _ {ℓ} {A : Type ℓ} where
   pub get_d_front : (ys xs : List A) (i : ℕ) (d : A) → i < length ys → get_or (over ys xs) i d ≡ get_or ys i d
@@ -146,6 +146,15 @@ each-count {Q = Q} p (x ∷ xs) h l = go (p x) refl (each-count p xs h.1)
     go : (b : Bool) → p x ≡ b → (0 < count p xs → Q) → Q
     go true e ih = h.0 e
     go false e ih = ih (omega (arith, ap bit e))
+
+-- ---- how many of the first n pass
+
+pub count-tab-append : {X : Type 0} (p : X → Bool) (f : ℕ → X) (m k : ℕ) → count p (tab f (m + k)) ≡ count p (tab f m) + count p (tab (λ j. f (m + j)) k)
+count-tab-append p f m k = ap (count p) (tab-append f m k) ∙ count-append p (tab f m) (tab (λ j. f (m + j)) k)
+
+-- by tests that agree below n
+pub count_below : (p q : ℕ → Bool) (n : ℕ) → ((j : ℕ) → j < n → p j ≡ q j) → count p (below n) ≡ count q (below n)
+count_below p q n e = count_same p q (below n) (each-tab (λ j. p j ≡ q j) (λ j. j) n e)
 
 -- ---- numbers from i on that do not pass: those below i say it all
 

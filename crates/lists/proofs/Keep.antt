@@ -7,7 +7,7 @@ use native.Mathlib.Nat.{add-zero, suc-add, add-suc}
 use native.Mathlib.Numerals.{add-one}
 use native.Mathlib.Omega.{arith}
 use lib.ListN.{length, take, drop, get_or, set, take-append-drop, drop_of_length-le, length-append}
-use lib.Seq.{take-suc, take_at, drop_at, get_or_at, drop-cons, take-take, length-take-le, drop-append-le, slice, slice-cons, slice_empty, sets, sets-eq}
+use lib.Seq.{take-suc, take_at, drop_at, get_or_at, drop-cons, take-take, length-take-le, drop-append-le, slice, slice-cons, slice_empty, sets, sets-eq, get_or-set_other}
 use lib.Dec.{T}
 use Rattle.lists.specs.Keep.{bit, keep, count, Each, numbered}
 
@@ -95,7 +95,6 @@ module _ {X : Type 0} where
   keep-none p [] h = refl
   keep-none p (x ∷ xs) h = rw (h.0, keep-none p xs h.1)
 
-  -- a stricter test after a laxer one
   -- one test after another
   pub keep-both : (p q : X → Bool) (xs : List X) → keep p (keep q xs) ≡ keep (λ x. q x && p x) xs
   keep-both p q [] = refl
@@ -106,6 +105,7 @@ module _ {X : Type 0} where
       go true ih = ap (λ (l : List X). cond (p x) (x ∷ l) l) ih
       go false ih = ih
 
+  -- a stricter test after a laxer one
   pub keep-keep : (p q : X → Bool) (xs : List X) → ((x : X) → p x ≡ true → q x ≡ true) → keep p (keep q xs) ≡ keep p xs
   keep-keep p q [] h = refl
   keep-keep p q (x ∷ xs) h = go (q x) (p x) refl refl (keep-keep p q xs h)
@@ -225,11 +225,20 @@ module _ {X : Type 0} where
   sets-append xs i [] zs = rw (add-zero i)
   sets-append xs i (y ∷ ys) zs = sets-append (set xs i y) (suc i) ys zs ∙ rw (suc-add i (length ys), add-suc i (length ys))
 
+  -- a place past those that are written is as it was
+  pub get_or-sets_past : (xs : List X) (s : ℕ) (ys : List X) (i : ℕ) (d : X) → s + length ys ≤ i → get_or (sets xs s ys) i d ≡ get_or xs i d
+  get_or-sets_past xs s [] i d h = refl
+  get_or-sets_past xs s (y ∷ ys) i d h = get_or-sets_past (set xs s y) (suc s) ys i d (omega arith) ∙ get_or-set_other xs s i y d (omega arith)
+
   pub sets-all : (xs ys : List X) → length ys ≡ length xs → sets xs 0 ys ≡ ys
   sets-all xs ys e =
       sets-eq ys xs 0 (omega arith) ∙ ap (λ (r : List X). ys ++ r) (drop_of_length-le xs {i = 0 + length ys} (omega arith)) ∙ append-nil ys
 
 -- ---- under a map
+
+pub map_same : {X Y : Type 0} (f g : X → Y) (xs : List X) → Each (λ x. f x ≡ g x) xs → map f xs ≡ map g xs
+map_same f g [] h = refl
+map_same f g (x ∷ xs) h = rw (h.0, map_same f g xs h.1)
 
 module _ {X Y : Type 0} (f : X → Y) where
   pub take-map : (n : ℕ) (xs : List X) → take n (map f xs) ≡ map f (take n xs)

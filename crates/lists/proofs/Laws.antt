@@ -1,14 +1,14 @@
 -- Laws of `tab`, `zip_with` and `over`, and of `get_or` at two defaults.
 use mathlib.Core.Path.{◌≡◌, refl, sym, ap, ◌∙◌}
 use mathlib.Core.Logic.{◌⊎◌, inl, inr}
-use mathlib.Core.List.{List, [], ◌∷◌, ◌++◌, append-nil}
+use mathlib.Core.List.{List, [], ◌∷◌, ◌++◌, append-nil, append_assoc}
 use Prim.Native.Nat.{ℕ, zero, suc, ◌+◌, ◌≤◌, ◌<◌}
-use native.Mathlib.Nat.{suc_inj, zero-add, not-suc-le-zero, le_of_suc-le-suc, le_antisymm, eq-or-lt_of_le}
+use native.Mathlib.Nat.{suc_inj, zero-add, add-zero, add-suc, not-suc-le-zero, le_of_suc-le-suc, le_antisymm, eq-or-lt_of_le}
 use native.Mathlib.Numerals.{add-one}
 use native.Mathlib.Omega.{arith}
-use lib.ListN.{length, get_or, take, drop, set, length-append, length-drop, get_or-append}
+use lib.ListN.{length, get_or, take, drop, set, replicate, length-append, length-drop, get_or-append}
 use lib.Seq.{append_snoc, drop-cons, drop-length, get_or_at, set_at, ext_get_or, take-length, paste-suc}
-use Rattle.lists.specs.Lists.{tab, zip_with, over}
+use Rattle.lists.specs.Lists.{tab, zip_with, over, total}
 
 module _ {ℓ} {A : Type ℓ} where
   -- in range the default doesn't matter
@@ -36,6 +36,11 @@ module _ {ℓ} {A : Type ℓ} where
   pub tab-ext : (f g : ℕ → A) (n : ℕ) → ((i : ℕ) → i < n → f i ≡ g i) → tab f n ≡ tab g n
   tab-ext f g zero e = refl
   tab-ext f g (suc n) e = rw (tab-ext f g n (λ i h. e i (omega arith)), e n (omega arith))
+
+  -- m entries and k more
+  pub tab-append : (f : ℕ → A) (m k : ℕ) → tab f (m + k) ≡ tab f m ++ tab (λ j. f (m + j)) k
+  tab-append f m zero = rw (add-zero m, append-nil (tab f m)) refl
+  tab-append f m (suc k) = rw (add-suc m k, tab-append f m k) (append_assoc (tab f m) (tab (λ j. f (m + j)) k) (f (m + k) ∷ []))
 
   pub length_over : (ys xs : List A) → length ys ≤ length xs → length (over ys xs) ≡ length xs
   unfolding over
@@ -74,3 +79,19 @@ module _ {ℓ ℓ' ℓ''} {A : Type ℓ} {B : Type ℓ'} {C : Type ℓ''} (f : A
   pub zip-tab : (g : ℕ → A) (h : ℕ → B) (n : ℕ) → zip_with f (tab g n) (tab h n) ≡ tab (λ i. f (g i) (h i)) n
   zip-tab g h zero = refl
   zip-tab g h (suc n) = rw (zip-append (tab g n) (tab h n) (g n) (h n) (length-tab g n ∙ sym (length-tab h n)), zip-tab g h n)
+
+-- ---- sums
+
+pub total-append : (xs ys : List ℕ) → total (xs ++ ys) ≡ total xs + total ys
+total-append [] ys = omega arith
+total-append (x ∷ xs) ys = omega (arith, total-append xs ys)
+
+pub total-next : (f : ℕ → ℕ) (n : ℕ) → total (tab f (suc n)) ≡ total (tab f n) + f n
+total-next f n = omega (arith, total-append (tab f n) (f n ∷ []))
+
+-- ---- zeros
+
+pub get_or-zeros : (n i : ℕ) → get_or (replicate {A = ℕ} n 0) i 0 ≡ 0
+get_or-zeros zero i = refl
+get_or-zeros (suc n) zero = refl
+get_or-zeros (suc n) (suc i) = get_or-zeros n i

@@ -3,6 +3,7 @@ pub mod Laws
 pub mod Entries
 pub mod Keep
 pub mod Front
+pub mod Ranges
 pub mod Writing
 pub mod Tests
 pub mod Bits

@@ -1,2 +1,3 @@
--- Whether a slot is live.
+-- Live marks in words of 64.
 pub mod Live
+pub mod Word

@@ -1,28 +1,26 @@
 -- How many slots have a distance, or one below it, as loops count them.
 use mathlib.Core.Path.{◌≡◌, refl, sym, ap, ◌∙◌}
-use mathlib.Core.Bool.{Bool, true, false, ◌&&◌, ◌||◌, and-true, and-false}
-use mathlib.Core.Logic.{inl, inr, ⊎_elim}
+use mathlib.Core.Bool.{Bool, true, false, ◌&&◌, and-true, and-false}
+use mathlib.Core.Logic.{◌⊎◌, inl, inr, ⊎_elim}
 use mathlib.Core.List.{List, [], ◌∷◌}
-use Prim.Native.Nat.{ℕ, zero, suc, ◌+◌, ◌-◌, ◌≤◌, ◌<◌, min}
+use Prim.Native.Nat.{ℕ, zero, suc, ◌+◌, ◌-◌, ◌*◌, ◌≤◌, ◌<◌, min}
 use native.Mathlib.Nat.{eq-or-lt_of_le}
 use native.Mathlib.Numerals.{add-one}
 use native.Mathlib.Omega.{arith}
 use native.Mathlib.Decide.{dec_lt, ℕ_discrete}
-use lib.Dec.{ltb, eqb}
-use lib.ListN.{length, get_or, set, replicate, length-set}
-use lib.Seq.{get_or-set_same, get_or-set_other}
 use mir.Val.{bool_byte}
+use lib.Dec.{ltb, eqb}
+use lib.ListN.{length, get_or, set, length-set}
+use lib.Seq.{get_or-set_same, get_or-set_other}
 use borrow.Author.Tests.{lt-ltb, le-ltb, eq-eqb, ne_eqb, ltb-true, ltb-false}
 use Rattle.lists.specs.Lists.{below}
 use Rattle.lists.specs.Keep.{bit, count}
-use Rattle.lists.proofs.Bits.{as-bit}
 use Rattle.lists.proofs.Laws.{length-tab}
 use Rattle.lists.proofs.Front.{each-tab}
 use Rattle.lists.proofs.Keep.{count-append, count-length, count-implied, count_same, count-share}
-use Rattle.lists.proofs.Writing.{Written, written-more}
 use Rattle.nearest.specs.Distances.{past}
 use Rattle.nearest.specs.declared.Limit.{Limit}
-use Rattle.nearest.specs.Limit.{under, level, Reached, Unreached, Limits, is_marked}
+use Rattle.nearest.specs.Limit.{under, level, Reached, Unreached, Limits}
 
 -- ---- among the numbers below n
 
@@ -51,7 +49,7 @@ module _ (p : ℕ → Bool) where
 -- ---- distances
 
 module _ (xs : List ℕ) where
-  level-up : (d i : ℕ) → level xs d (i + 1) ≡ level xs d i + bit (eqb (get_or xs i 0) d)
+  pub level-up : (d i : ℕ) → level xs d (i + 1) ≡ level xs d i + bit (eqb (get_or xs i 0) d)
   unfolding level
   level-up d i = rw (add-one i) (count-up (λ j. eqb (get_or xs j 0) d) i)
 
@@ -111,52 +109,60 @@ module _ (xs : List ℕ) where
   under-rises d e n l =
       count-implied (λ i. ltb (get_or xs i 0) d) (λ i. ltb (get_or xs i 0) e) (below n) (λ i t. lt-ltb (get_or xs i 0) e (omega (arith, ltb-true (get_or xs i 0) d t)))
 
--- ---- a loop that counts each distance
+-- ---- a loop that counts each distance, and what is past them elsewhere
 
 pub record Tallied (xs counts : List ℕ) (size i : ℕ) : Type 0 where
   pub within : i ≤ length xs
   pub long : length counts ≡ size
-  pub are : (d : ℕ) → d < size → get_or counts d 0 ≡ level xs d i
+  pub are : (d : ℕ) → d < past → get_or counts d 0 ≡ level xs d i
+  pub few : (d : ℕ) → get_or counts d 0 ≤ i
 
 pub tallied-none : (xs counts : List ℕ) → ((d : ℕ) → get_or counts d 0 ≡ 0) → Tallied xs counts (length counts) 0
-tallied-none xs counts z = record { within = omega arith; long = refl; are = λ d l. z d ∙ sym (level-none xs d) }
+tallied-none xs counts z = record { within = omega arith; long = refl; are = λ d l. z d ∙ sym (level-none xs d); few = λ d. omega (arith, z d) }
 
 module _ {xs counts : List ℕ} {size i : ℕ} (t : Tallied xs counts size i) where
-  pub tallied-more : i < length xs → get_or xs i 0 < size → Tallied xs (set counts (get_or xs i 0) (get_or counts (get_or xs i 0) 0 + 1)) size (i + 1)
-  tallied-more l k =
+  -- one place more is counted: the distance's own, or one past all distances for a number past them
+  pub tallied-more : (place : ℕ) → i < length xs → place < size → place ≡ get_or xs i 0 ⊎ (past ≤ get_or xs i 0) × (past ≤ place) →
+      Tallied xs (set counts place (get_or counts place 0 + 1)) size (i + 1)
+  tallied-more place l room is =
       let x = get_or xs i 0 in
-      let new = get_or counts x 0 + 1 in
+      let new = get_or counts place 0 + 1 in
+      let here : get_or (set counts place new) place 0 ≡ new = get_or-set_same counts place new 0 (omega (arith, t.long)) in
+      let there : (d : ℕ) → ¬ (d ≡ place) → get_or (set counts place new) d 0 ≡ get_or counts d 0 = λ d o. get_or-set_other counts place d new 0 o in
+      let at : (d : ℕ) → d ≡ place → get_or counts d 0 ≡ get_or counts place 0 = λ d e. ap (λ (j : ℕ). get_or counts j 0) e in
       record {
         within = omega arith;
-        long = length-set counts x new ∙ t.long;
-        are = λ d m. elim (ℕ_discrete d x) [
-          | yes e ↦ rw e (get_or-set_same counts x new 0 (omega (arith, t.long)) ∙ omega (arith, t.are x k, level-here xs i))
-          | no o ↦ get_or-set_other counts x d new 0 o ∙ omega (arith, t.are d m, level-up xs d i, ap bit (ne_eqb x d (λ e. o (sym e))))
+        long = length-set counts place new ∙ t.long;
+        are = λ d m. elim (ℕ_discrete d place) [
+          | yes e ↦
+              let f : d ≡ x = ⊎_elim (λ (g : place ≡ x). e ∙ g) (λ g. absurd (omega (arith, g.1))) is in
+              ap (λ (j : ℕ). get_or (set counts place new) j 0) e ∙ here
+              ∙ omega (arith, at d e, t.are d m, ap (λ (j : ℕ). level xs j i) f, level-here xs i, ap (λ (j : ℕ). level xs j (i + 1)) f)
+          | no o ↦
+              there d o ∙ omega (arith, t.are d m, level-up xs d i, ap bit (ne_eqb x d (λ e. ⊎_elim (λ (g : place ≡ x). o (sym (g ∙ e))) (λ g. omega (arith, g.0)) is)))
+        ];
+        few = λ d. elim (ℕ_discrete d place) [
+          | yes e ↦ omega (arith, ap (λ (j : ℕ). get_or (set counts place new) j 0) e, here, t.few place)
+          | no o ↦ omega (arith, there d o, t.few d)
         ];
       }
 
--- an array of zeros
-pub all-zero : (n i : ℕ) → get_or (replicate {A = ℕ} n 0) i 0 ≡ 0
-all-zero zero i = refl
-all-zero (suc n) zero = refl
-all-zero (suc n) (suc i) = all-zero n i
+-- where a number is counted: at its own place, or `turn` places on where it is past all distances
+module _ (x turn : ℕ) where
+  abbrev place : ℕ
+  place = x + bool_byte (eqb x past) * turn
 
--- ---- a loop that marks
+  pub place-is : place ≡ x ⊎ (past ≤ x) × (past ≤ place)
+  place-is = elim (ℕ_discrete x past) [
+    | yes e ↦ inr (omega arith, omega arith)
+    | no o ↦ inl (rw (ne_eqb x past o) (omega arith))
+  ]
 
-pub record Marking (xs : List ℕ) (limit ties : ℕ) (old marks : List ℕ) (seen i : ℕ) : Type 0 where
-  pub written : Written (λ j. bit (is_marked xs limit ties j)) (length xs) i old marks
-  pub ties-seen : seen ≡ level xs limit i
-
-pub marking-more : {xs : List ℕ} {limit ties : ℕ} {old marks : List ℕ} {seen i : ℕ} → Marking xs limit ties old marks seen i → length xs ≤ length old →
-    i < length xs → (b : Bool) → b ≡ (ltb (get_or xs i 0) limit || (eqb (get_or xs i 0) limit && ltb seen ties)) →
-    Marking xs limit ties old (set marks i (bool_byte b)) (seen + bool_byte (eqb (get_or xs i 0) limit)) (i + 1)
-unfolding is_marked
-marking-more {xs} {limit} {ties} {old} {marks} {seen} {i} m room l b e =
-    let byte : bool_byte b ≡ bit (is_marked xs limit ties i) = as-bit b ∙ ap bit (rw m.ties-seen at e) in
-    record {
-      written = rw byte (written-more (λ j. bit (is_marked xs limit ties j)) (length xs) old room m.written l);
-      ties-seen = omega (arith, m.ties-seen, level-up xs limit i, as-bit (eqb (get_or xs i 0) limit));
-    }
+  pub place-low : {size : ℕ} → x < 12290 → turn < 64 → past + 64 ≤ size → place < size
+  place-low l k h = elim (ℕ_discrete x past) [
+    | yes e ↦ rw (eq-eqb x past e) (omega arith)
+    | no o ↦ rw (ne_eqb x past o) (omega arith)
+  ]
 
 -- ---- a loop that looks for the limit
 

@@ -1,12 +1,13 @@
 -- Sums over lanes and over bytes, as loops make them, and how large they can be.
 use mathlib.Core.Path.{◌≡◌, ap, ◌∙◌}
-use mathlib.Core.List.{List, [], ◌∷◌, ◌++◌}
+use mathlib.Core.List.{List}
 use Prim.Native.Nat.{ℕ, zero, suc, ◌+◌, ◌*◌, ◌/◌, ◌≤◌, ◌<◌}
 use native.Mathlib.Nat.{add-zero, add-suc, zero-add, mul-suc}
 use native.Mathlib.Numerals.{add-one}
 use native.Mathlib.Omega.{arith}
 use lib.ListN.{get_or}
 use Rattle.lists.specs.Lists.{tab, total}
+use Rattle.lists.proofs.Laws.{total-next}
 use Rattle.codes.specs.Packing.{code_at}
 use Rattle.codes.specs.Writing.{at_width}
 use Rattle.codes.proofs.Packing.{code_at-lt}
@@ -15,19 +16,12 @@ use Rattle.index.specs.Codec.{apart}
 use Rattle.nearest.specs.Lanes.{lane_apart, lanes_apart}
 use Rattle.nearest.specs.Pairs.{Low}
 
-total-append : (xs ys : List ℕ) → total (xs ++ ys) ≡ total xs + total ys
-total-append [] ys = omega arith
-total-append (x ∷ xs) ys = omega (arith, total-append xs ys)
-
 module _ (f : ℕ → ℕ) where
-  pub total-next : (n : ℕ) → total (tab f (suc n)) ≡ total (tab f n) + f n
-  total-next n = omega (arith, total-append (tab f n) (f n ∷ []))
-
   -- n more, each at most k
   pub total-more : (k m n : ℕ) → ((i : ℕ) → i < m + n → f i ≤ k) → total (tab f (m + n)) ≤ total (tab f m) + k * n
   total-more k m zero h = rw add-zero (omega arith)
   total-more k m (suc n) h =
-      rw (add-suc, mul-suc) (omega (arith, total-next (m + n), total-more k m n (λ i l. h i (omega arith)), h (m + n) (omega arith)))
+      rw (add-suc, mul-suc) (omega (arith, total-next f (m + n), total-more k m n (λ i l. h i (omega arith)), h (m + n) (omega arith)))
 
   pub total-most : (k n : ℕ) → ((i : ℕ) → i < n → f i ≤ k) → total (tab f n) ≤ k * n
   total-most k n h = rw (zero-add n, zero-add (k * n)) at (total-more k 0 n (λ i l. h i (omega arith)))

@@ -2,11 +2,12 @@
 use mathlib.Core.Path.{◌≡◌, sym, ap, ◌∙◌}
 use mathlib.Core.Bool.{Bool, true, false, cond, ◌&&◌}
 use mathlib.Core.List.{List}
-use Prim.Native.Nat.{ℕ, ◌≤◌, ◌<◌}
+use Prim.Native.Nat.{ℕ, ◌≤◌, ◌<◌, min}
 use native.Mathlib.Omega.{arith}
+use native.Mathlib.Decide.{dec_lt}
 use lib.Dec.{leb, eqb}
 use lib.ListN.{length, take, get_or, replicate, length-replicate}
-use borrow.Author.Tests.{leb-true, eqb-true}
+use borrow.Author.Tests.{lt-leb, le-leb, leb-true, eqb-true}
 use Rattle.lists.specs.Lists.{tab, over}
 use Rattle.lists.specs.Keep.{bit, Each}
 use Rattle.lists.proofs.Laws.{length-tab, get_or-tab, length_over}
@@ -39,6 +40,22 @@ ready slots marks width working entries t =
     let b = both (leb slots 65536) (eqb width 4 && rotatable working entries 4096) a.1 in
     let c = both (eqb width 4) (rotatable working entries 4096) b.1 in
     record { room = leb-true slots marks a.0; few = leb-true slots 65536 b.0; four = eqb-true width 4 c.0; query = c.1 }
+
+-- with more than 65,536 slots it fails anyway, so marks past these don't count
+pub cascadable-places : (slots marks width working entries : ℕ) → cascadable slots (min 65536 marks) width working entries ≡ cascadable slots marks width working entries
+unfolding cascadable
+cascadable-places slots marks width working entries =
+    elim (dec_lt marks slots) [
+      | yes l ↦ rw (lt-leb slots (min 65536 marks) (omega arith), lt-leb slots marks l)
+      | no l ↦ elim (dec_lt 65536 slots) [
+        | yes k ↦ rw (lt-leb slots (min 65536 marks) (omega arith), le-leb slots marks (omega arith), lt-leb slots 65536 k)
+        | no k ↦ rw (le-leb slots (min 65536 marks) (omega arith), le-leb slots marks (omega arith))
+      ]
+    ]
+
+pub tested : (slots marks width working entries : ℕ) {places : ℕ} {b : Bool} → b ≡ cascadable slots places width working entries → places ≡ min 65536 marks →
+    b ≡ cascadable slots marks width working entries
+tested slots marks width working entries e f = e ∙ rw f (cascadable-places slots marks width working entries)
 
 -- what is lent of `next`
 pub record Lent (x : Index) (codes alive : List ℕ) (q : Query) (places : ℕ) (next : List ℕ) : Type 0 where

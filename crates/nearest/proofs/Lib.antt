@@ -2,6 +2,8 @@
 mod Lanes
 mod Pairs
 pub mod Distance
-mod Counting
+pub mod Counting
 pub mod Nearest
 mod Lent
+mod Groups
+mod Marking

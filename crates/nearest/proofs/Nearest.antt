@@ -12,8 +12,8 @@ use borrow.Author.Tests.{lt-ltb, le-ltb, eq-eqb, ne_eqb, ltb-true}
 use Rattle.lists.specs.Lists.{tab, below}
 use Rattle.lists.specs.Keep.{bit, keep, count}
 use Rattle.lists.proofs.Laws.{length-tab, get_or-tab, tab-ext}
-use Rattle.lists.proofs.Front.{each-tab}
-use Rattle.lists.proofs.Keep.{count_same, count-share}
+use Rattle.lists.proofs.Front.{count_below}
+use Rattle.lists.proofs.Keep.{count-share}
 use Rattle.nearest.specs.Distances.{past}
 use Rattle.nearest.specs.declared.Limit.{Limit}
 use Rattle.marks.specs.Live.{live_at}
@@ -61,8 +61,7 @@ module _ (distance : ℕ → ℕ) (alive : List ℕ) (n : ℕ) (low : (i : ℕ) 
     unfolding under level
     count-before =
         count-both (λ i. before distance alive n i j) live (below n)
-        ∙ count_same (λ i. live i && before distance alive n i j) (λ i. ltb (at i) (at j) || (eqb (at i) (at j) && ltb i j)) (below n)
-        (each-tab (λ i. (live i && before distance alive n i j) ≡ (ltb (at i) (at j) || (eqb (at i) (at j) && ltb i j))) (λ i. i) n (λ i k. same-before i j k m e))
+        ∙ count_below (λ i. live i && before distance alive n i j) (λ i. ltb (at i) (at j) || (eqb (at i) (at j) && ltb i j)) n (λ i k. same-before i j k m e)
         ∙ count-share (λ i. ltb (at i) (at j) || (eqb (at i) (at j) && ltb i j)) (λ i. ltb (at i) (at j)) (λ i. eqb (at i) (at j) && ltb i j) (below n)
         (λ i. bit-either (ltb (at i) (at j)) (eqb (at i) (at j)) (ltb i j) (λ t. ne_eqb (at i) (at j) (λ f. omega (arith, ltb-true (at i) (at j) t))))
         ∙ ap (λ (k : ℕ). count (λ i. ltb (at i) (at j)) (below n) + k) (count-first (λ i. eqb (at i) (at j)) j n (omega arith))
@@ -122,7 +121,7 @@ module _ (distance : ℕ → ℕ) (alive : List ℕ) (n : ℕ) (low : (i : ℕ) 
   -- the live slots are those below `past`
   count-live : under xs past n ≡ count live (below n)
   unfolding under
-  count-live = count_same (λ i. ltb (at i) past) live (below n) (each-tab (λ i. ltb (at i) past ≡ live i) (λ i. i) n (λ i l. go i (live i) (are i l)))
+  count-live = count_below (λ i. ltb (at i) past) live n (λ i l. go i (live i) (are i l))
     where
       go : (i : ℕ) (b : Bool) → at i ≡ cond b (distance i) past → ltb (at i) past ≡ b
       go i true e = lt-ltb (at i) past (omega (arith, low i))
@@ -131,8 +130,7 @@ module _ (distance : ℕ → ℕ) (alive : List ℕ) (n : ℕ) (low : (i : ℕ) 
   near-many : (r : ℕ) (limit : Limit) → Limits xs r limit → count (is_near distance alive n r) (below n) ≡ min r (count live (below n))
   near-many r limit t =
       let d = limit.distance in
-      let marked = sym (count_same (is_marked xs d limit.ties) (is_near distance alive n r) (below n)
-      (each-tab (λ i. is_marked xs d limit.ties i ≡ is_near distance alive n r i) (λ i. i) n (λ i l. marked-near r d limit.ties t i l)))
+      let marked = sym (count_below (is_marked xs d limit.ties) (is_near distance alive n r) n (λ i l. marked-near r d limit.ties t i l))
       ∙ count-marked d limit.ties in
       ⊎_elim
       (λ a. omega (

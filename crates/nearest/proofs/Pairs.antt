@@ -7,14 +7,14 @@ use native.Mathlib.Numerals.{add-one}
 use native.Mathlib.Omega.{arith}
 use lib.ListN.{length, get_or}
 use Rattle.lists.specs.Lists.{tab, over, total}
-use Rattle.lists.proofs.Laws.{length-tab, get_or-tab}
+use Rattle.lists.proofs.Laws.{length-tab, get_or-tab, total-next}
 use Rattle.lists.proofs.Front.{get_d_front}
 use Rattle.digits.specs.Digits.{Below}
 use Rattle.score.proofs.Products.{low-code, high-code}
 use Rattle.index.specs.Codec.{apart}
 use Rattle.nearest.specs.Lanes.{lane_apart, lanes_apart, byte_apart, bytes_apart}
 use Rattle.nearest.specs.Pairs.{Low, Pairs, Split}
-use Rattle.nearest.proofs.Lanes.{total-next, total-more, Gained, gained-more, gained-all, gained-most}
+use Rattle.nearest.proofs.Lanes.{total-more, Gained, gained-more, gained-all, gained-most}
 
 apart_low : (a b : ℕ) → a ≤ 3 → b ≤ 3 → apart a b ≤ 3
 apart_low a b k l = omega arith

@@ -1,11 +1,14 @@
 // The cascade's distances of the slots in use from a query (document 01, store.rs, cascade). Dead slots get a number above every distance.
-ghost use Rattle.std.specs.Prelude.{◌≡◌, true, ◌+◌, ◌*◌, ◌/◌, ◌≤◌, length, get_or};
+ghost use Rattle.std.specs.Prelude.{◌≡◌, true, cond, ◌+◌, ◌*◌, ◌/◌, ◌^◌, ◌≤◌, ◌<◌, length, get_or};
 ghost use Rattle.std.specs.Float.{nan};
 ghost use Rattle.lists.specs.Lists.{tab, over};
 ghost use Rattle.unit.specs.Brought.{query_of};
 ghost use Rattle.padding.specs.Rotatable.{rotatable};
+ghost use Rattle.marks.specs.Live.{marks_in};
+ghost use Rattle.marks.specs.Word.{live_in};
+ghost use Rattle.codes.specs.Slots.{block_at};
 ghost use Rattle.index.specs.State.{header_of};
-ghost use Rattle.nearest.specs.Distances.{live_distance};
+ghost use Rattle.nearest.specs.Distances.{past, live_distance};
 ghost use Rattle.nearest.specs.Lanes.{top_of, lanes_apart, bytes_apart, slot_apart};
 ghost use Rattle.nearest.specs.Pairs.{Low, Split};
 
@@ -100,39 +103,52 @@ impl Tops<'_> {
         self.bytes_apart(block, n) + self.rest_apart(block, n * 2)
     }
 
-    // The distance of a live slot, whose block has `size` bytes; 12,289 for a dead one.
-    fn slot_distance(&self, codes: &[u8], alive: &[u8], size: usize, slot: usize) -> u32
-        ensures { result ≡ slot_apart codes.now alive.now size self.now.all.now self.now.lanes slot }
+    // ---- all slots, by the words of their marks
+
+    // The distances of slots from `first` on, as many as there are places, of which a word has the marks, and whose blocks have `size` bytes.
+    // Those of dead slots are written first, all at once: one by one, a cascade over 65,536 slots, 3% of them live, took 1.07 times as long.
+    fn write_group(&self, codes: &[u8], live: u64, size: usize, first: usize, distances: &mut [u32])
+        requires { (length distances.old ≤ 64) × (first + length distances.old < 2 ^ 64) }
+        ensures { distances.new ≡ tab (λ k. cond (live_in live k)
+            (lanes_apart self.now.all.now (block_at size (first + k) codes.now) self.now.lanes) past) (length distances.old) }
     {
-        if marks::is_live(alive, slot) {
-            self.lanes_apart(codes::slot_codes(codes, slot, size))
-        } else {
-            12289
+        distances.fill(12289);
+        for (k, distance) in distances.iter_mut().enumerate() {
+            if marks::is_set(live, k) {
+                *distance = self.lanes_apart(codes::slot_codes(codes, first + k, size));
+            }
         }
     }
-
-    // ---- all slots
 
     fn write_distances(
         &self,
         codes: &[u8],
-        alive: &[u8],
+        alive: &[u64],
         size: usize,
         n: usize,
         distances: &mut [u32],
     )
         requires { n ≤ length distances.old }
-        ensures { distances.new ≡ over (tab (slot_apart codes.now alive.now size self.now.all.now self.now.lanes) n) distances.old }
+        ensures { distances.new ≡ over (tab (slot_apart codes.now (marks_in alive.now) size self.now.all.now self.now.lanes) n) distances.old }
     {
-        for (slot, distance) in distances[..n].iter_mut().enumerate() {
-            *distance = self.slot_distance(codes, alive, size, slot);
+        for group in 0..n.div_ceil(64) {
+            let live = marks::word_at(alive, group);
+            let first = group * 64;
+            let many = (n - first).min(64);
+            self.write_group(
+                codes,
+                live,
+                size,
+                first,
+                &mut distances[first..first + many],
+            );
         }
     }
 }
 
 fn write_distances(
     codes: &[u8],
-    alive: &[u8],
+    alive: &[u64],
     size: usize,
     n: usize,
     tops: &[u8],
@@ -140,7 +156,7 @@ fn write_distances(
     distances: &mut [u32],
 )
     requires { (lanes ≤ 4096) × (lanes ≤ length tops.now) × (Low tops.now lanes) × (n ≤ length distances.old) }
-    ensures { distances.new ≡ over (tab (slot_apart codes.now alive.now size tops.now lanes) n) distances.old }
+    ensures { distances.new ≡ over (tab (slot_apart codes.now (marks_in alive.now) size tops.now lanes) n) distances.old }
 {
     let mut even = [0u8; 2048];
     every_second(tops, 0, lanes / 2, &mut even);
@@ -159,12 +175,12 @@ fn write_distances(
 pub(crate) fn live_distances(
     index: Index,
     codes: &[u8],
-    alive: &[u8],
+    alive: &[u64],
     query: &[f32],
     distances: &mut [u32],
 )
     requires { (index.n ≤ length distances.old) × (index.bits ≡ 4) × (rotatable index.working_dim (length query.now) 4096 ≡ true) }
-    ensures { distances.new ≡ over (tab (live_distance (header_of index) codes.now alive.now (query_of query.now)) index.n)
+    ensures { distances.new ≡ over (tab (live_distance (header_of index) codes.now (marks_in alive.now) (query_of query.now)) index.n)
         distances.old }
 {
     let lanes = padding::padded_dim(index.working_dim);

@@ -14,7 +14,7 @@ use Rattle.lists.proofs.Keep.{count-append}
 use Rattle.encode.specs.declared.Header.{Header}
 use Rattle.encode.specs.Coded.{fault, no_spare}
 use Rattle.index.specs.declared.Index.{Index}
-use Rattle.index.specs.Arrays.{Arrays}
+use Rattle.index.specs.Arrays.{Arrays, unmarked}
 use Rattle.index.specs.State.{Mark, Slot, is_live, live, header_of, capacity, slot_at, state_of, record_of, overlay, put_slot, new_slot, with_counts}
 use Rattle.index.specs.Fit.{fit}
 use Rattle.index.specs.Codec.{encoded}
@@ -27,6 +27,7 @@ use Rattle.index.proofs.Places.{overlay-more}
 use Rattle.place.specs.Place.{recoded, after_add, refusal}
 use Rattle.place.specs.Adding.{spot, mark_for}
 use Rattle.place.proofs.Calls.{unless_refused, wrote, accepted}
+use Rattle.index.proofs.Overlay.{unmarked-capacity}
 
 -- how many of the value's slots are live
 pub live-count : (x : Index) (a : Arrays) → fit x a ≡ true → count live (tab (slot_at (header_of x) a) x.n) ≡ x.live
@@ -75,10 +76,10 @@ module _ (x : Index) (a : Arrays) (k : Option (ℕ × ℕ)) (v : Item) where
     unfolding refusal first_of
     refusal_is = rw e
 
-    arrays-are : x.n < room → overlay a (slots ++ (new ∷ [])) ≡ put_slot h a x.n new
+    arrays-are : x.n < room → overlay (unmarked a) (slots ++ (new ∷ [])) ≡ put_slot h a x.n new
     unfolding state_of
     arrays-are l =
-        overlay-more h a slots new (fit-sound x a e).shape (encoded-shaped h no_spare v) (rw many l)
+        overlay-more h (unmarked a) slots new (fit-sound x a e).shape (encoded-shaped h no_spare v) (rw (many, unmarked-capacity h a) l)
         ∙ (λ j. put_slot h (overlay-self x a e j) (many j) new)
 
     record_is : record_of (with_slots (state_of x a) false (slots ++ (new ∷ []))) ≡ after_add x true

@@ -22,7 +22,7 @@ use Rattle.encode.specs.declared.Header.{Header}
 use Rattle.encode.specs.Header.{block_size}
 use Rattle.encode.specs.Coded.{fault, spare_of}
 use Rattle.index.specs.declared.Index.{Index}
-use Rattle.index.specs.Arrays.{Arrays}
+use Rattle.index.specs.Arrays.{Arrays, unmarked}
 use Rattle.index.specs.State.{Mark, dead, unkeyed, keyed, Slot, live, header_of, capacity, slot_at, state_of, record_of, alive_of, has_key, key_word, position, seconds, scales_of, blocks_of, overlay, put_slot, new_slot, with_code, with_counts}
 use Rattle.index.specs.Fit.{fit}
 use Rattle.index.specs.Sound.{Shaped, AllShaped}
@@ -38,6 +38,7 @@ use Rattle.place.specs.Adding.{spot}
 use Rattle.place.proofs.Calls.{unless_refused, wrote}
 use Rattle.place.proofs.Blocks.{each_set, over-set, blocks-set, scales-set}
 use Rattle.place.proofs.Append.{live-count, step-refused}
+use Rattle.marks.specs.Live.{no_marks}
 
 -- a mark that holds a position of a key
 marked : (j p : ℕ) (m : Mark) → holds_at j p m ≡ true → m ≡ keyed j p
@@ -70,7 +71,7 @@ module _ (x : Index) (a : Arrays) (i : ℕ) (v : Item) where
     unfolding state_of
     shape = (fit-sound x a e).shape
 
-    self : overlay a slots ≡ a
+    self : overlay (unmarked a) slots ≡ a
     unfolding state_of
     self = overlay-self x a e
 
@@ -175,20 +176,20 @@ module _ (x : Index) (a : Arrays) (i : ℕ) (v : Item) where
           ∙ sym (set-tab old after x.n i new l (rw (eq-eqb i i refl)) (λ m k. rw (ne_eqb m i k)))
 
       -- one of the arrays of marks
-      marks-are : {B : Type 0} (g : Slot → B) (xs : List B) → over (map g slots) xs ≡ xs → over (map g (set slots i new)) xs ≡ set xs i (g new)
-      marks-are g xs q =
-          ap (λ zs. over zs xs) (map-set g slots i new) ∙ over-set (map g slots) xs i (g new) (rw (length-map slots g) within) ∙ ap (λ zs. set zs i (g new)) q
+      marks-are : {B : Type 0} (g : Slot → B) (under xs : List B) → over (map g slots) under ≡ xs → over (map g (set slots i new)) under ≡ set xs i (g new)
+      marks-are g under xs q =
+          ap (λ zs. over zs under) (map-set g slots i new) ∙ over-set (map g slots) under i (g new) (rw (length-map slots g) within) ∙ ap (λ zs. set zs i (g new)) q
 
-      arrays-are : overlay a (set slots i new) ≡ put_slot h a i new
+      arrays-are : overlay (unmarked a) (set slots i new) ≡ put_slot h a i new
       unfolding overlay put_slot
       arrays-are =
           λ t. record {
             codes = codes-are t;
             scales = scales-are t;
-            keys = marks-are (λ s. key_word s.mark) a.keys (ap (λ (b : Arrays). b.keys) self) t;
-            keyed = marks-are (λ s. has_key s.mark) a.keyed (ap (λ (b : Arrays). b.keyed) self) t;
-            held = marks-are (λ s. position s.mark) a.held (ap (λ (b : Arrays). b.held) self) t;
-            alive = marks-are (λ s. alive_of s.mark) a.alive (ap (λ (b : Arrays). b.alive) self) t;
+            keys = marks-are (λ s. key_word s.mark) a.keys a.keys (ap (λ (b : Arrays). b.keys) self) t;
+            keyed = marks-are (λ s. has_key s.mark) a.keyed a.keyed (ap (λ (b : Arrays). b.keyed) self) t;
+            held = marks-are (λ s. position s.mark) a.held a.held (ap (λ (b : Arrays). b.held) self) t;
+            alive = marks-are (λ s. alive_of s.mark) (no_marks a.alive) a.alive (ap (λ (b : Arrays). b.alive) self) t;
             codes2 = codes2-are h.residual refl t;
             scales2 = scales2-are h.residual refl t;
           }
@@ -197,9 +198,9 @@ module _ (x : Index) (a : Arrays) (i : ℕ) (v : Item) where
       abbrev done : Result
       done = wrote x a (spot i (Some (j, 0))) false v
 
-      placed : overlay a (map change slots) ≡ done.arrays
+      placed : overlay (unmarked a) (map change slots) ≡ done.arrays
       unfolding recoded
-      placed = ap (overlay a) changed ∙ arrays-are ∙ ap (λ (m : Mark). put_slot h a i (new_slot m new.code)) (marked j 0 (old i).mark mine)
+      placed = ap (overlay (unmarked a)) changed ∙ arrays-are ∙ ap (λ (m : Mark). put_slot h a i (new_slot m new.code)) (marked j 0 (old i).mark mine)
 
       record_is : record_of (with_slots (state_of x a) false (map change slots)) ≡ after_add x false
       unfolding record_of state_of

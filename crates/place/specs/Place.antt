@@ -5,7 +5,7 @@ use Rattle.encode.specs.declared.Header.{Header}
 use Rattle.encode.specs.Header.{block_size}
 use Rattle.encode.specs.Coded.{Code, fault, no_spare, spare_of}
 use Rattle.index.specs.declared.Index.{Index}
-use Rattle.index.specs.Arrays.{Arrays, lent}
+use Rattle.index.specs.Arrays.{Arrays}
 use Rattle.index.specs.State.{Mark, alive_of, has_key, key_word, position, header_of, with_counts, capacity, slot_at, put_slot, with_code}
 use Rattle.index.specs.Fit.{misfit}
 use Rattle.index.specs.Sound.{Ranged}
@@ -20,7 +20,8 @@ recoded h fresh old v = encoded h (cond fresh no_spare (spare_of h old)) v
 
 -- the arrays with other codes and scales
 abbrev pub with_stages : Arrays → (codes scales codes2 scales2 : List ℕ) → Arrays
-with_stages a b c d e = lent b c a.keys a.keyed a.held a.alive d e
+with_stages a b c d e =
+    record { codes = b; scales = c; keys = a.keys; keyed = a.keyed; held = a.held; alive = a.alive; codes2 = d; scales2 = e }
 
 -- the code of a vector in the places of a slot, all else kept
 unfoldable pub put_code : Header → Arrays → (fresh : Bool) → (i : ℕ) → Item → Arrays
@@ -32,7 +33,16 @@ put_code h a fresh i v =
 -- the mark of a slot in its places, all else kept
 unfoldable pub put_mark : Arrays → (i : ℕ) → Mark → Arrays
 put_mark a i m =
-    lent a.codes a.scales (set a.keys i (key_word m)) (set a.keyed i (has_key m)) (set a.held i (position m)) (set a.alive i (alive_of m)) a.codes2 a.scales2
+    record {
+      codes = a.codes;
+      scales = a.scales;
+      keys = set a.keys i (key_word m);
+      keyed = set a.keyed i (has_key m);
+      held = set a.held i (position m);
+      alive = set a.alive i (alive_of m);
+      codes2 = a.codes2;
+      scales2 = a.scales2;
+    }
 
 -- the vector can be coded, and the slot has its places
 pub record Codable (h : Header) (a : Arrays) (i : ℕ) (v : Item) : Type 0 where

@@ -23,6 +23,7 @@ use Rattle.index.specs.Make.{begun}
 use Rattle.read.proofs.Limits.{few-slots}
 use Rattle.read.proofs.Faults.{passed-head, read_all}
 use Rattle.read.proofs.Filled.{Filled, filled}
+use Rattle.marks.specs.Live.{no_marks}
 
 module _ (file : List ℕ) (a : Arrays) (none : read_refusal file a ≡ 0) where
   passed : Accepted file a
@@ -77,7 +78,7 @@ module _ (file : List ℕ) (a : Arrays) (none : read_refusal file a ≡ 0) where
       pub keys : b.keys ≡ over (tab (word_from table k) n) a.keys
       pub keyed : b.keyed ≡ over (tab (on_from table k) n) a.keyed
       pub held : b.held ≡ over (tab (rising_position b.keys b.keyed) n) a.held
-      pub alive : b.alive ≡ over (tab (λ _. 1) n) a.alive
+      pub alive : b.alive ≡ over (tab (λ _. 1) n) (no_marks a.alive)
       pub codes2 : b.codes2 ≡ over (blocks_of (tab (stage_from f w m second) m)) a.codes2
       pub scales2 : b.scales2 ≡ over (scales_of (tab (stage_from f w m second) m)) a.scales2
 
@@ -94,7 +95,7 @@ module _ (file : List ℕ) (a : Arrays) (none : read_refusal file a ≡ 0) where
           keys = d.keys ∙ (λ i. over (tab (word_from (eb i) (ek i)) (en i)) a.keys);
           keyed = d.keyed ∙ (λ i. over (tab (on_from (eb i) (ek i)) (en i)) a.keyed);
           held = d.held ∙ (λ i. over (tab (rising_position b.keys b.keyed) (en i)) a.held);
-          alive = d.alive ∙ (λ i. over (tab (λ _. 1) (en i)) a.alive);
+          alive = d.alive ∙ (λ i. over (tab (λ _. 1) (en i)) (no_marks a.alive));
           codes2 = d.codes2 ∙ (λ i. over (blocks_of (tab (stage_from (ef i) (ew i) (em i) (et i)) (em i))) a.codes2);
           scales2 = d.scales2 ∙ (λ i. over (scales_of (tab (stage_from (ef i) (ew i) (em i) (et i)) (em i))) a.scales2);
         }

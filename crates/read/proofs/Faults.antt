@@ -1,19 +1,20 @@
 -- The refusals in their order.
-use mathlib.Core.Path.{◌≡◌, refl, sym, ap, ◌∙◌}
+use mathlib.Core.Path.{◌≡◌, refl}
 use mathlib.Core.Bool.{true, false}
 use mathlib.Core.List.{List, ◌∷◌}
 use Prim.Native.Nat.{ℕ, zero, suc, ◌≤◌, ◌<◌}
 use borrow.Author.Tests.{lt-ltb, le-ltb}
 use Rattle.index.specs.declared.Index.{Index}
 use Rattle.index.specs.Verdict.{granted, turned_down}
-use Rattle.index.specs.Arrays.{Arrays}
+use Rattle.index.specs.Arrays.{Arrays, unmarked}
 use Rattle.index.specs.State.{capacity, record_of, overlay}
 use Rattle.index.specs.Step.{first_of}
-use Rattle.index.specs.Read.{count_in, header_in, head_fault, over_limits, slots_in, state_in, read_refusal, read_unless, read_into}
+use Rattle.index.specs.Read.{count_in, header_in, head_fault, over_limits, slots_in, state_in, read_refusal, read_into}
 use Rattle.index.proofs.Kept.{when-none}
 use Rattle.index.proofs.Read.{all-passed}
 use Rattle.read.specs.Parts.{body_fault}
 use Rattle.index.specs.Make.{begun}
+use Rattle.index.proofs.Make.{begun-granted, begun-refused}
 
 first_some : (n : ℕ) (ns : List ℕ) → (n ≡ 0 → ⊥) → n ≡ first_of (n ∷ ns)
 unfolding first_of
@@ -44,14 +45,11 @@ module _ (file : List ℕ) (a : Arrays) where
   passed-head e = let t = all-passed _ e in (t.0, when-none (over_limits file) 19 t.1.0)
 
   -- a file that is not refused, and one that is
-  pub read_all : read_refusal file a ≡ 0 → (x : Index) (b : Arrays) → x ≡ record_of (state_in file) → b ≡ overlay a (slots_in file) → begun (granted x) b ≡ read_into a file
+  pub read_all : read_refusal file a ≡ 0 → (x : Index) (b : Arrays) → x ≡ record_of (state_in file) → b ≡ overlay (unmarked a) (slots_in file) →
+      begun (granted x) b ≡ read_into a file
   unfolding read_into
-  read_all e x b f g = (λ i. record { answer = granted (f i); arrays = g i }) ∙ ap (λ (n : ℕ). read_unless n a file) (sym e)
+  read_all e x b f g = begun-granted _ _ _ _ e x b f g
 
   pub read_none : (n : ℕ) → n ≡ read_refusal file a → (n ≡ 0 → ⊥) → begun (turned_down n) a ≡ read_into a file
   unfolding read_into
-  read_none n e h = go n h ∙ ap (λ (m : ℕ). read_unless m a file) e
-    where
-      go : (m : ℕ) → (m ≡ 0 → ⊥) → begun (turned_down m) a ≡ read_unless m a file
-      go zero k = absurd (k refl)
-      go (suc m) k = refl
+  read_none n e h = begun-refused _ _ _ n _ e h

@@ -16,7 +16,7 @@ use Rattle.encode.specs.declared.Header.{Header}
 use Rattle.encode.specs.Header.{block_size}
 use Rattle.index.specs.declared.Form.{Form}
 use Rattle.index.specs.declared.Index.{Index}
-use Rattle.index.specs.Arrays.{Arrays}
+use Rattle.index.specs.Arrays.{Arrays, unmarked}
 use Rattle.index.specs.State.{Mark, keyed, Slot, live, record_with, record_of, alive_of, has_key, key_word, position, seconds, scales_of, blocks_of, overlay}
 use Rattle.index.specs.Read.{form_in, count_in, header_in, stage_from, key_from, mark_from, stages_in, second_in, table_in, entry_count, entries_in, slot_in, slots_in, state_in, entry_from}
 use Rattle.index.specs.Sound.{AllShaped}
@@ -26,6 +26,7 @@ use Rattle.held_order.specs.Restored.{rising_position}
 use Rattle.compact.proofs.Rising.{rising-map, rising-positions}
 use Rattle.read.specs.Table.{slots_from, key_by, word_from, on_from}
 use Rattle.read.proofs.Keys.{keys-are}
+use Rattle.marks.specs.Live.{no_marks}
 
 -- the record: all slots are live
 pub record_is : (file : List ℕ) (h : Header) (n : ℕ) → h ≡ header_in file → n ≡ count_in file →
@@ -60,7 +61,7 @@ module _ (file : List ℕ) where
     pub keys : b.keys ≡ over (tab (word_from (table_in file) (entry_count file)) n) a.keys
     pub keyed : b.keyed ≡ over (tab (on_from (table_in file) (entry_count file)) n) a.keyed
     pub held : b.held ≡ over (tab (rising_position b.keys b.keyed) n) a.held
-    pub alive : b.alive ≡ over (tab (λ _. 1) n) a.alive
+    pub alive : b.alive ≡ over (tab (λ _. 1) n) (no_marks a.alive)
     pub codes2 : b.codes2 ≡ over (blocks_of (tab (stage_from f w (cond f.second n 0) (second_in file)) (cond f.second n 0))) a.codes2
     pub scales2 : b.scales2 ≡ over (scales_of (tab (stage_from f w (cond f.second n 0) (second_in file)) (cond f.second n 0))) a.scales2
 
@@ -101,6 +102,11 @@ module _ (file : List ℕ) where
     live-mark none = refl
     live-mark (some k) = refl
 
+    all-live : map (λ s. alive_of s.mark) (slots_in file) ≡ tab (λ _. 1) n
+    all-live =
+        let key : ℕ → Option ℕ = key_by (entry_from (table_in file)) (entry_count file) in
+        marks-are alive_of (λ k p q. refl) ∙ tab-ext (λ i. alive_of (mark_from (key i))) (λ _. 1) n (λ i l. live-mark (key i))
+
     -- the entries of an array over which a part of the marks was written
     part_at : {B : Type 0} (g : Mark → B) (xs ys : List B) (z : B) → ys ≡ over (tab (λ i. g (mark_from (key_by (entry_from (table_in file)) (entry_count file) i))) n) xs →
         (i : ℕ) (d : Slot) → i < length loose → get_or ys i z ≡ g (get_or loose i d).mark
@@ -123,7 +129,7 @@ module _ (file : List ℕ) where
 
     -- ---- all arrays
 
-    pub filled : (b : Arrays) → Filled a b → b ≡ overlay a (slots_in file)
+    pub filled : (b : Arrays) → Filled a b → b ≡ overlay (unmarked a) (slots_in file)
     unfolding overlay
     filled b f =
         λ j. record {
@@ -132,7 +138,7 @@ module _ (file : List ℕ) where
           keys = (f.keys ∙ ap (λ (ys : List ℕ). over ys a.keys) (sym (marks-are key_word (λ k p q. refl)))) j;
           keyed = (f.keyed ∙ ap (λ (ys : List Bool). over ys a.keyed) (sym (marks-are has_key (λ k p q. refl)))) j;
           held = (f.held ∙ ap (λ (ys : List ℕ). over ys a.held) (sym (positions b f))) j;
-          alive = (f.alive ∙ ap (λ (ys : List ℕ). over ys a.alive) (sym (marks-are alive_of (λ k p q. refl) ∙ tab-ext (λ i. alive_of (mark_from (key_by (entry_from (table_in file)) (entry_count file) i))) (λ _. 1) n (λ i l. live-mark (key_by (entry_from (table_in file)) (entry_count file) i))))) j;
+          alive = (f.alive ∙ ap (λ (ys : List ℕ). over ys (no_marks a.alive)) (sym all-live)) j;
           codes2 = (f.codes2 ∙ ap (λ (gs : List Stage). over (blocks_of gs) a.codes2) (sym (second-stages shaped))) j;
           scales2 = (f.scales2 ∙ ap (λ (gs : List Stage). over (scales_of gs) a.scales2) (sym (second-stages shaped))) j;
         }

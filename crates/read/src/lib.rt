@@ -3,6 +3,7 @@
 
 ghost use Rattle.std.specs.Prelude.{◌≡◌, true, false, cond, ◌*◌, ◌≤◌, length, drop, set, ltb};
 ghost use Rattle.lists.specs.Lists.{tab, over};
+ghost use Rattle.marks.specs.Live.{marks_in, no_marks};
 ghost use Rattle.encode.specs.Header.{block_size};
 ghost use Rattle.refusal.specs.Refusal.{fault_of};
 ghost use Rattle.index.specs.Lent.{contents, contents_mut, SameLent};
@@ -83,16 +84,16 @@ fn read_marks(
     keys: &mut [u64],
     keyed: &mut [bool],
     held: &mut [u32],
-    alive: &mut [u8],
+    alive: &mut [u64],
     table: &[u8],
     entries: u32,
     n: usize,
 )
-    requires { (n ≤ 65536) × (n ≤ length keys.old) × (n ≤ length keyed.old) × (n ≤ length held.old) × (n ≤ length alive.old) }
+    requires { (n ≤ 65536) × (n ≤ length keys.old) × (n ≤ length keyed.old) × (n ≤ length held.old) × (n ≤ length (marks_in alive.old)) }
     ensures keys_after { keys.new ≡ over (tab (word_from table.now entries) n) keys.old }
     ensures keyed_after { keyed.new ≡ over (tab (on_from table.now entries) n) keyed.old }
     ensures held_after { held.new ≡ over (tab (rising_position keys.new keyed.new) n) held.old }
-    ensures alive_after { alive.new ≡ over (tab (λ _. 1) n) alive.old }
+    ensures alive_after { marks_in alive.new ≡ over (tab (λ _. 1) n) (no_marks (marks_in alive.old)) }
 {
     set_keys(keys, keyed, table, entries, n);
     held_order::restore_order(keys, keyed, held, n);

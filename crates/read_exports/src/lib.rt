@@ -1,25 +1,12 @@
 // Reading, for C and Rust. The words of the record (crate words) go to the first places of `fields`.
 #![tactic(auto)]
 
-ghost use Rattle.std.specs.Prelude.{◌≡◌, [], ◌∷◌};
+ghost use Rattle.std.specs.Prelude.{◌≡◌, []};
 ghost use Rattle.index.specs.Arrays.{lent};
-ghost use Rattle.index.specs.Lent.{contents};
-ghost use Rattle.index.specs.Step.{first_of};
-ghost use Rattle.index.specs.Read.{read_refusal};
-ghost use Rattle.words.specs.Exports.{left, reads};
+ghost use Rattle.index.specs.Read.{read_into};
+ghost use Rattle.words.specs.Exports.{left, begins};
 
-use index::{Lent, LentMut};
-
-// The refusal where the record has no place: 01 asks for what the file says first.
-#[tactic(auto, unfolding(index::specs::Step::first_of))]
-fn without_place(arrays: &Lent<'_>, file: &[u8]) -> u8
-    ensures { result ≡ first_of (read_refusal file.now (contents arrays.now) ∷ 13 ∷ []) }
-{
-    match read::check(arrays, file) {
-        Ok(()) => 13,
-        Err(refusal) => u8::from(refusal),
-    }
-}
+use index::LentMut;
 
 #[unsafe(no_mangle)]
 pub extern "C" fn vecq_raw_from_bytes(
@@ -29,15 +16,15 @@ pub extern "C" fn vecq_raw_from_bytes(
     keys: &mut [u64],
     keyed: &mut [bool],
     held: &mut [u32],
-    alive: &mut [u8],
+    alive: &mut [u64],
     codes2: &mut [u8],
     scales2: &mut [u32],
     file: &[u8],
 ) -> u8
-    ensures { left result fields.new []
+    ensures { let a = lent codes.old scales.old keys.old keyed.old held.old alive.old codes2.old scales2.old in
+        left result fields.new []
         (lent codes.new scales.new keys.new keyed.new held.new alive.new codes2.new scales2.new)
-        ≡ reads file.now fields.old
-        (lent codes.old scales.old keys.old keyed.old held.old alive.old codes2.old scales2.old) }
+        ≡ begins (read_into a file.now) fields.old a }
 {
     let mut arrays = LentMut {
         codes,
@@ -51,7 +38,7 @@ pub extern "C" fn vecq_raw_from_bytes(
     };
     // Nothing may have been written once the record turns out to have no place.
     if fields.len() < words::RECORD_WORDS {
-        return without_place(&arrays.view(), file);
+        return answer_words::without_place(read::check(&arrays.view(), file));
     }
     let read = read::from_bytes(&mut arrays, file);
     answer_words::put_made(read, fields)

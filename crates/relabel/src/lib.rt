@@ -49,7 +49,7 @@ pub fn relabel(
     keys: &mut [u64],
     keyed: &[bool],
     held: &[u32],
-    alive: &[u8],
+    alive: &[u64],
     codes2: &[u8],
     scales2: &[u32],
     old: u64,

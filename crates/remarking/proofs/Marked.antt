@@ -8,12 +8,12 @@ use native.Mathlib.Omega.{arith}
 use lib.ListN.{length, get_or, length-map}
 use Rattle.lists.specs.Lists.{tab, over}
 use Rattle.lists.specs.Keep.{bit, count}
-use Rattle.lists.proofs.Laws.{length-tab, get_or-tab, tab-ext}
+use Rattle.lists.proofs.Laws.{length-tab, get_or-tab, tab-ext, length_over}
 use Rattle.lists.proofs.Keep.{count_map, count-share}
-use Rattle.lists.proofs.Front.{map-tab, get_or-over-map, over-own}
+use Rattle.lists.proofs.Front.{map-tab, get_or-over-map, over-own, over-ext, get_d_front, get_or-rest}
 use Rattle.codes.specs.Stage.{Stage}
 use Rattle.index.specs.declared.Index.{Index}
-use Rattle.index.specs.Arrays.{Arrays}
+use Rattle.index.specs.Arrays.{Arrays, unmarked}
 use Rattle.index.specs.State.{Mark, Slot, is_live, live, header_of, mark_of, slot_at, state_of, record_of, alive_of, has_key, key_word, position, seconds, scales_of, blocks_of, overlay, with_counts}
 use Rattle.index.specs.Fit.{fit}
 use Rattle.index.specs.Step.{Op, flag, holds, on_mark, guarded, remarked}
@@ -23,9 +23,10 @@ use Rattle.slot_keys.specs.Has.{slot_has}
 use Rattle.held.proofs.Value.{mark-holds}
 use Rattle.remarking.specs.Replaced.{replaced_where}
 use Rattle.remarking.specs.Live.{with_live}
-use Rattle.index.proofs.Fits.{fitting, overlay-self, record-self}
+use Rattle.index.proofs.Fits.{fitting, overlay-self, record-self, none-past}
 use Rattle.index.proofs.Overlay.{Roomy, roomy}
 use Rattle.index.proofs.Calls.{outcome, call_fits}
+use Rattle.marks.specs.Live.{no_marks}
 
 -- the mark that the arrays hold of a slot
 abbrev pub mark_at : Arrays → ℕ → Mark
@@ -43,34 +44,35 @@ module _ (x : Index) (a : Arrays) (e : fit x a ≡ true) where
   abbrev slots : List Slot
   slots = tab (slot_at (header_of x) a) x.n
 
-  own : overlay a slots ≡ a
+  own : overlay (unmarked a) slots ≡ a
   unfolding state_of
   own = overlay-self x a e
 
   -- an array of marks has the parts of its marks
-  part_at : {B : Type 0} (g : Mark → B) (xs : List B) (d : B) → over (map (λ s. g s.mark) slots) xs ≡ xs → (i : ℕ) → i < x.n → g (mark_at a i) ≡ get_or xs i d
+  part_at : {B : Type 0} (g : Mark → B) (xs under : List B) (d : B) → over (map (λ s. g s.mark) slots) under ≡ xs → (i : ℕ) → i < x.n →
+      g (mark_at a i) ≡ get_or xs i d
   unfolding slot_at
-  part_at g xs d same i l =
+  part_at g xs under d same i l =
       sym (ap (λ (s : Slot). g s.mark) (get_or-tab (slot_at (header_of x) a) x.n i (slot_at (header_of x) a 0) l))
-      ∙ sym (get_or-over-map (λ (s : Slot). g s.mark) slots xs i (slot_at (header_of x) a 0) d (rw (length-tab (slot_at (header_of x) a) x.n) l))
+      ∙ sym (get_or-over-map (λ (s : Slot). g s.mark) slots under i (slot_at (header_of x) a 0) d (rw (length-tab (slot_at (header_of x) a) x.n) l))
       ∙ ap (λ ys. get_or ys i d) same
 
   module _ (i : ℕ) (l : i < x.n) where
     pub word_at : key_word (mark_at a i) ≡ get_or a.keys i 0
     unfolding overlay
-    word_at = part_at key_word a.keys 0 (ap (λ (b : Arrays). b.keys) own) i l
+    word_at = part_at key_word a.keys a.keys 0 (ap (λ (b : Arrays). b.keys) own) i l
 
     pub keyed-at : has_key (mark_at a i) ≡ get_or a.keyed i false
     unfolding overlay
-    keyed-at = part_at has_key a.keyed false (ap (λ (b : Arrays). b.keyed) own) i l
+    keyed-at = part_at has_key a.keyed a.keyed false (ap (λ (b : Arrays). b.keyed) own) i l
 
     pub held_at : position (mark_at a i) ≡ get_or a.held i 0
     unfolding overlay
-    held_at = part_at position a.held 0 (ap (λ (b : Arrays). b.held) own) i l
+    held_at = part_at position a.held a.held 0 (ap (λ (b : Arrays). b.held) own) i l
 
     pub alive-at : alive_of (mark_at a i) ≡ get_or a.alive i 0
     unfolding overlay
-    alive-at = part_at alive_of a.alive 0 (ap (λ (b : Arrays). b.alive) own) i l
+    alive-at = part_at alive_of a.alive (no_marks a.alive) 0 (ap (λ (b : Arrays). b.alive) own) i l
 
   -- ---- after a change f of the marks
 
@@ -100,7 +102,19 @@ module _ (x : Index) (a : Arrays) (e : fit x a ≡ true) where
     firsts_same : map (λ (s : Slot). s.code.first) (map (on_mark f) slots) ≡ map (λ (s : Slot). s.code.first) slots
     firsts_same = map-map (λ (s : Slot). s.code.first) (on_mark f) slots
 
-    arrays-after : overlay a (map (on_mark f) slots) ≡ after_marks
+    -- no mark is set past the slots in use
+    marks-after : over (tab (λ i. alive_of (f (mark_at a i))) x.n) (no_marks a.alive) ≡ parts_of alive_of a.alive
+    marks-after =
+        let g : ℕ → ℕ = λ i. alive_of (f (mark_at a i)) in
+        let many : length (no_marks a.alive) ≡ length a.alive = length-tab (λ i. 0) (length a.alive) in
+        let few : length (tab g x.n) ≡ x.n = length-tab g x.n in
+        sym (over-ext g x.n 0 (no_marks a.alive) (over (tab g x.n) a.alive) (omega (arith, room.alive, many))
+        (length_over (tab g x.n) a.alive (omega (arith, room.alive, few)) ∙ sym many)
+        (λ i l. get_d_front (tab g x.n) a.alive i 0 (omega (arith, l, few)) ∙ get_or-tab g x.n i 0 l)
+        (λ i l k. get_or-rest (tab g x.n) a.alive i 0 (omega (arith, l, few)) ∙ none-past x.n a.alive (fitting x a e).clear i l
+        ∙ sym (get_or-tab (λ j. 0) (length a.alive) i 0 (omega (arith, k, many)))))
+
+    arrays-after : overlay (unmarked a) (map (on_mark f) slots) ≡ after_marks
     unfolding overlay
     arrays-after =
         λ j. record {
@@ -109,7 +123,7 @@ module _ (x : Index) (a : Arrays) (e : fit x a ≡ true) where
           keys = part-after key_word a.keys j;
           keyed = part-after has_key a.keyed j;
           held = part-after position a.held j;
-          alive = part-after alive_of a.alive j;
+          alive = (part-after alive_of (no_marks a.alive) ∙ marks-after) j;
           codes2 = (ap (λ gs. over (blocks_of gs) a.codes2) (seconds-same f slots) ∙ ap (λ (b : Arrays). b.codes2) own) j;
           scales2 = (ap (λ gs. over (scales_of gs) a.scales2) (seconds-same f slots) ∙ ap (λ (b : Arrays). b.scales2) own) j;
         }

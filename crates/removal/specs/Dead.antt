@@ -1,5 +1,6 @@
 -- The arrays that a removal writes, and what it makes of them. The word that `keys` has at a dead slot stays, and counts for nothing.
 use Rattle.std.specs.Prelude.{Bool, false, List, ℕ, set}
+use Rattle.marks.specs.Live.{marks_in}
 use Rattle.remarking.specs.Replaced.{replaced_where}
 
 pub record SlotMarks : Type 0 where
@@ -8,7 +9,7 @@ pub record SlotMarks : Type 0 where
   pub alive : List ℕ
 
 abbrev pub lent_marks : List Bool → List ℕ → List ℕ → SlotMarks
-lent_marks a b c = record { keyed = a; held = b; alive = c }
+lent_marks a b c = record { keyed = a; held = b; alive = marks_in c }
 
 -- a slot dead: no key, position 0, the mark 0
 unfoldable pub dead_at : ℕ → SlotMarks → SlotMarks

@@ -2,6 +2,7 @@
 #![tactic(auto)]
 
 ghost use Rattle.std.specs.Prelude.{◌≡◌, cond, ◌&&◌, ◌-◌, ◌≤◌, ◌<◌, length, get_or, ltb};
+ghost use Rattle.marks.specs.Live.{marks_in};
 ghost use Rattle.index.specs.Arrays.{lent};
 ghost use Rattle.index.specs.Verdict.{verdict};
 ghost use Rattle.index.specs.Step as Step;
@@ -17,7 +18,7 @@ use refusal::Refusal;
 // The three arrays that change go as three slices: a struct of them would be made of the lent slices at each of the two calls below, and its fields taken apart again for `marks` and `slot_keys`.
 
 // Leaves a slot dead.
-fn remove_slot(keyed: &mut [bool], held: &mut [u32], alive: &mut [u8], slot: usize)
+fn remove_slot(keyed: &mut [bool], held: &mut [u32], alive: &mut [u64], slot: usize)
     requires { (slot < length keyed.old) × (slot < length held.old) }
     ensures { lent_marks keyed.new held.new alive.new ≡ dead_at slot (lent_marks keyed.old held.old alive.old) }
 {
@@ -31,7 +32,7 @@ fn remove_slot_of(
     keys: &[u64],
     keyed: &mut [bool],
     held: &mut [u32],
-    alive: &mut [u8],
+    alive: &mut [u64],
     slot: usize,
     key: u64,
 )
@@ -50,11 +51,11 @@ fn remove_slots(
     keys: &[u64],
     keyed: &mut [bool],
     held: &mut [u32],
-    alive: &mut [u8],
+    alive: &mut [u64],
     n: usize,
     key: u64,
 )
-    requires { (n ≤ length keyed.old) × (n ≤ length held.old) × (n ≤ length alive.old) }
+    requires { (n ≤ length keyed.old) × (n ≤ length held.old) × (n ≤ length (marks_in alive.old)) }
     ensures { lent_marks keyed.new held.new alive.new
         ≡ dead_where (slot_has keys.now keyed.old key) n (lent_marks keyed.old held.old alive.old) }
 {
@@ -72,7 +73,7 @@ pub fn remove_keyed(
     keys: &[u64],
     keyed: &mut [bool],
     held: &mut [u32],
-    alive: &mut [u8],
+    alive: &mut [u64],
     codes2: &[u8],
     scales2: &[u32],
     key: u64,
@@ -122,7 +123,7 @@ fn last_slot(keys: &[u64], keyed: &[bool], held: &[u32], n: usize, key: u64) -> 
 }
 
 // Leaves a slot dead, and its position to the last one of its key, which may be the slot itself.
-fn remove_one(keyed: &mut [bool], held: &mut [u32], alive: &mut [u8], slot: usize, last: usize)
+fn remove_one(keyed: &mut [bool], held: &mut [u32], alive: &mut [u64], slot: usize, last: usize)
     requires { (slot < length keyed.old) × (slot < length held.old) × (last < length held.old) }
     ensures { lent_marks keyed.new held.new alive.new
         ≡ dead_at slot (placed_at last (get_or held.old slot 0) (lent_marks keyed.old held.old alive.old)) }
@@ -139,7 +140,7 @@ pub fn remove_keyed_at(
     keys: &[u64],
     keyed: &mut [bool],
     held: &mut [u32],
-    alive: &mut [u8],
+    alive: &mut [u64],
     codes2: &[u8],
     scales2: &[u32],
     key: u64,

@@ -31,7 +31,7 @@ pub fn capacity(index: Index, arrays: &Lent<'_>) -> usize
         .min(arrays.keys.len())
         .min(arrays.keyed.len())
         .min(arrays.held.len())
-        .min(arrays.alive.len());
+        .min(marks::places(arrays.alive));
     if index.residual {
         return marks
             .min(arrays.codes2.len() / bytes)

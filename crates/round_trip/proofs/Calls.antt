@@ -12,19 +12,20 @@ use Rattle.lists.proofs.Keep.{each_weaken, each_both, count-length}
 use Rattle.lists.proofs.Front.{each_map, each-tab}
 use Rattle.index.specs.declared.Index.{Index}
 use Rattle.index.specs.Verdict.{granted}
-use Rattle.index.specs.Arrays.{Arrays}
-use Rattle.index.specs.State.{Slot, State, live, header_of, rooms, least, capacity, mark_of, stage_at, slot_at, state_of, record_of}
+use Rattle.index.specs.Arrays.{Arrays, unmarked}
+use Rattle.index.specs.State.{Slot, State, live, header_of, rooms, least, capacity, mark_of, stage_at, slot_at, state_of, record_of, overlay}
 use Rattle.index.specs.Fit.{fit}
 use Rattle.index.specs.Step.{refused, bytes, unless, when, Cell, live_from, key_of_mark, entry_of, file_bytes, write, step}
 use Rattle.index.specs.Call.{Result, call}
 use Rattle.index.specs.Sound.{Shaped, Sound}
-use Rattle.index.specs.Read.{state_in, read_refusal, read_unless, read_into}
+use Rattle.index.specs.Read.{state_in, read_refusal, read_into, slots_in}
 use Rattle.index.proofs.Fits.{fit-sound, record-self}
 use Rattle.index.proofs.Calls.{call-misfit, call_fits}
 use Rattle.index.proofs.Read.{read-value}
 use Rattle.round_trip.specs.Back.{PatternLow, KeyLow, Holdable, Writable, saved, Typed, Opens, WrittenIsRead}
 use Rattle.round_trip.proofs.Back.{accepted-back}
 use Rattle.round_trip.proofs.Compacted.{read-written}
+use Rattle.index.specs.Make.{begun_unless}
 
 low-capacity : (m : ℕ) (ns : List ℕ) → least m ns ≤ m
 unfolding least
@@ -111,7 +112,8 @@ module _ (x : Index) (a : Arrays) (t : Typed x a) where
     opens b space =
         let passes : read_refusal file b ≡ 0 = accepted-back (header_of x) (map entry_of cells) writable b (omega (arith, length-map cells entry_of, live-is, space)) in
         let made : (read_into b file).answer ≡ granted (record_of (saved (state_of x a))) =
-        ap (λ (n : ℕ). (read_unless n b file).answer) passes ∙ ap (λ (s : State). granted (record_of s)) is-saved in
+        ap (λ (n : ℕ). (begun_unless n (record_of (state_in file)) b (overlay (unmarked b) (slots_in file))).answer) passes
+        ∙ ap (λ (s : State). granted (record_of s)) is-saved in
         record { answer = made; value = read-value b file (record_of (saved (state_of x a))) made ∙ is-saved }
 
 -- ---- an answer of bytes is that of the file

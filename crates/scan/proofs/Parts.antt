@@ -13,7 +13,7 @@ use lib.Dec.{T}
 use lib.ListN.{length, take, drop, get_or, set, length-take, length-drop}
 use lib.Seq.{sets, sets-eq, length-sets, take_at, drop_at, length-take-le, ext_get_or, get_or-take, get_or-drop, get_or-set_other}
 use lib.Ieee.{Float, nan}
-use Rattle.scan.specs.Scan.{takes_part}
+use Rattle.marks.specs.Live.{live_at}
 use Rattle.scan.specs.Groups.{part_at, Summed}
 
 -- a place in one part is in no other
@@ -54,7 +54,7 @@ module _ (m : ℕ) (lanes_of : ℕ → List Float) (marks : List ℕ) (first man
   Sums = Summed m lanes_of marks first many
 
   module _ (s : ℕ) (sums : List Float) (h : Sums s sums) where
-    pub summed-skip : takes_part marks (first + s) ≡ false → Sums (s + 1) sums
+    pub summed-skip : live_at marks (first + s) ≡ false → Sums (s + 1) sums
     summed-skip e = record { each = below_more _ _ h.each (λ l t. absurd (subst T (sym t ∙ e) tt)) }
 
     pub summed-put : length (lanes_of (first + s)) ≡ m → s * m + m ≤ length sums → Sums (s + 1) (sets sums (s * m) (lanes_of (first + s)))
@@ -66,10 +66,10 @@ module _ (m : ℕ) (lanes_of : ℕ → List Float) (marks : List ℕ) (first man
         }
 
     pub summed-more : (next : List Float) → length (lanes_of (first + s)) ≡ m → s * m + m ≤ length sums
-        → next ≡ cond (takes_part marks (first + s)) (sets sums (s * m) (lanes_of (first + s))) sums → Sums (s + 1) next
-    summed-more next size room e = go (takes_part marks (first + s)) refl e
+        → next ≡ cond (live_at marks (first + s)) (sets sums (s * m) (lanes_of (first + s))) sums → Sums (s + 1) next
+    summed-more next size room e = go (live_at marks (first + s)) refl e
       where
-        go : (b : Bool) → takes_part marks (first + s) ≡ b → next ≡ cond b (sets sums (s * m) (lanes_of (first + s))) sums → Sums (s + 1) next
+        go : (b : Bool) → live_at marks (first + s) ≡ b → next ≡ cond b (sets sums (s * m) (lanes_of (first + s))) sums → Sums (s + 1) next
         go true t f = rw f (summed-put size room)
         go false t f = rw f (summed-skip t)
 
@@ -78,14 +78,14 @@ module _ (m : ℕ) (lanes_of : ℕ → List Float) (marks : List ℕ) (first man
     two-more : s + 1 + 1 ≡ s + 2
     two-more = omega arith
 
-    pub summed-skip-two : takes_part marks (first + s) ≡ false → takes_part marks (first + next) ≡ false → Sums (s + 2) sums
+    pub summed-skip-two : live_at marks (first + s) ≡ false → live_at marks (first + next) ≡ false → Sums (s + 2) sums
     summed-skip-two e f =
         record {
           each =
               rw two-more at
-              (below_more (λ k. k < many → takes_part marks (first + k) ≡ true → part_at m k sums ≡ lanes_of (first + k)) (s + 1)
+              (below_more (λ k. k < many → live_at marks (first + k) ≡ true → part_at m k sums ≡ lanes_of (first + k)) (s + 1)
               (summed-skip s sums h e).each
-              (λ l t. absurd (subst T (sym t ∙ ap (λ (k : ℕ). takes_part marks (first + k)) (sym (neighbour l)) ∙ f) tt)));
+              (λ l t. absurd (subst T (sym t ∙ ap (λ (k : ℕ). live_at marks (first + k)) (sym (neighbour l)) ∙ f) tt)));
         }
 
     pub summed-put-two : ((i : ℕ) → length (lanes_of i) ≡ m) → s * m + m ≤ length sums → next * m + m ≤ length sums
@@ -106,11 +106,11 @@ module _ (m : ℕ) (lanes_of : ℕ → List Float) (marks : List ℕ) (first man
         within k l p n = ⊎_elim (λ e. absurd (n (e ∙ sym (neighbour (omega arith))))) (λ q. q) (eq-or-lt_of_le (omega arith))
 
     pub summed-two : (after : List Float) → ((i : ℕ) → length (lanes_of i) ≡ m) → s * m + m ≤ length sums → next * m + m ≤ length sums
-        → after ≡ cond (takes_part marks (first + s) || takes_part marks (first + next)) (sets (sets sums (s * m) (lanes_of (first + s))) (next * m) (lanes_of (first + next))) sums
+        → after ≡ cond (live_at marks (first + s) || live_at marks (first + next)) (sets (sets sums (s * m) (lanes_of (first + s))) (next * m) (lanes_of (first + next))) sums
         → Sums (s + 2) after
-    summed-two after size room room2 e = go (takes_part marks (first + s)) (takes_part marks (first + next)) refl refl e
+    summed-two after size room room2 e = go (live_at marks (first + s)) (live_at marks (first + next)) refl refl e
       where
-        go : (b d : Bool) → takes_part marks (first + s) ≡ b → takes_part marks (first + next) ≡ d
+        go : (b d : Bool) → live_at marks (first + s) ≡ b → live_at marks (first + next) ≡ d
             → after ≡ cond (b || d) (sets (sets sums (s * m) (lanes_of (first + s))) (next * m) (lanes_of (first + next))) sums → Sums (s + 2) after
         go true d t u f = rw f (summed-put-two size room room2)
         go false true t u f = rw f (summed-put-two size room room2)

@@ -10,6 +10,7 @@ use lib.ListN.{length, take, drop, get_or}
 use lib.Seq.{take-length, drop-length}
 use lib.Ieee.{Float, binary32, of_bits}
 use Rattle.pattern.specs.Binary32.{◌⊕◌, ◌⊗◌, +0, sum_from}
+use Rattle.marks.specs.Live.{live_at}
 use Rattle.digits.specs.Digits.{Below}
 use Rattle.digits.proofs.Below.{below-take, below-drop}
 use Rattle.codes.specs.Packing.{bytes_per_vector}
@@ -17,7 +18,7 @@ use Rattle.codes.proofs.Slots.{block-there, length-block}
 use Rattle.score.specs.Lanes.{bracketed}
 use Rattle.score.specs.Score.{lone_product, byte_sums, index_sums, raw_sums, block_products, byte_terms, fitting, of_block, raw_of_block, stage_score}
 use Rattle.score.proofs.Products.{length-products, length-terms}
-use Rattle.scan.specs.Scan.{takes_part, stage_of, score_now}
+use Rattle.scan.specs.Scan.{stage_of, score_now}
 use Rattle.scan.specs.Pairs.{Paired, Halved}
 use Rattle.scan.specs.Groups.{part_at, byte_lanes, wide_lanes, raw_by, score_by, raw_from, Summed, Raw, Rescored, Grouped}
 use Rattle.scan.proofs.Products.{pair-products, byte-terms}
@@ -64,8 +65,8 @@ module _ (cs pairs query evens odds : List Float) (block : List ℕ) (bytes : Be
 
 -- ---- a slot
 
-module _ (w : ℕ) (cs pairs query evens odds : List Float) (size : ℕ) (codes scales : List ℕ) (n centroids marks : ℕ) where
-  pub score-by : Grouped w (length cs) (length query) size (length codes) centroids marks n → Below 256 codes → Halved query evens odds (length query / 2)
+module _ (w : ℕ) (cs pairs query evens odds : List Float) (size : ℕ) (codes scales : List ℕ) (n centroids : ℕ) where
+  pub score-by : Grouped w (length cs) (length query) size (length codes) centroids n → Below 256 codes → Halved query evens odds (length query / 2)
       → Paired w cs pairs (2 ^ w * 2 ^ w) → (i : ℕ) → i < n
       → score_by w evens odds pairs query size codes scales i ≡ stage_of w cs query size codes scales i
   unfolding score_by stage_of stage_score part_at
@@ -103,4 +104,4 @@ module _ (w : ℕ) (evens odds pairs query : List Float) (size : ℕ) (codes mar
       (λ t.
       let e : first + (i - first) ≡ i = omega arith in
       ap (λ (x : Float). x ⊗ of_bits binary32 (get_or scales i 0))
-      (r.each (i - first) (omega arith) (ap (takes_part marks) e ∙ t) ∙ ap raw e)))
+      (r.each (i - first) (omega arith) (ap (live_at marks) e ∙ t) ∙ ap raw e)))

@@ -1,11 +1,10 @@
 -- Small steps: parts read and written entry by entry, bytes as a number, a slot's entry.
 use mathlib.Core.Path.{◌≡◌, sym, ap, ◌∙◌}
-use mathlib.Core.Bool.{Bool, true}
+use mathlib.Core.Bool.{Bool, true, false}
 use mathlib.Core.List.{List, ◌++◌, append_assoc}
 use Prim.Native.Nat.{ℕ, ◌+◌, ◌-◌, ◌*◌, ◌≤◌}
 use native.Mathlib.Omega.{arith}
-use borrow.Author.Tests.{eq-eqb, ne_eqb, lt-ltb, le-ltb}
-use lib.Dec.{ltb}
+use borrow.Author.Tests.{eq-eqb, ne_eqb}
 use borrow.Rule.Slice.PartMut.{put_mid}
 use lib.ListN.{length, take, drop, get_or, length-drop}
 use lib.Seq.{sets, sets-eq, length-take-le, get_or-take, get_or-drop}
@@ -56,14 +55,13 @@ module _ (w : ℕ) (sums : List Float) (k : ℕ) (acc : List Float) (x : Float) 
 
 -- ---- a slot's entry
 
-module _ (mark : ℕ) (second : Bool) (old : Float) where
-  pub entry-unmarked : (score : Float) → mark ≡ 0 → old ≡ score_after (ltb 0 mark) second score old
+module _ (marked second : Bool) (old : Float) where
+  pub entry-unmarked : (score : Float) → marked ≡ false → old ≡ score_after marked second score old
   unfolding score_after
-  entry-unmarked score e = rw (le-ltb 0 mark (omega arith))
+  entry-unmarked score e = rw e
 
-  pub entry-marked : (score score' x : Float) → (mark ≡ 0 → ⊥) → x ≡ score_after true second score old → score ≡ score' → x ≡ score_after (ltb 0 mark) second score' old
-  unfolding score_after
-  entry-marked score score' x n e f = rw (lt-ltb 0 mark (omega arith), ← f) e
+  pub entry-marked : (score score' x : Float) → marked ≡ true → x ≡ score_after true second score old → score ≡ score' → x ≡ score_after marked second score' old
+  entry-marked score score' x m e f = rw (m, ← f) e
 
 -- ---- the part of a slot, by where it begins and ends
 

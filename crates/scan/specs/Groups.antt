@@ -4,9 +4,9 @@ use Rattle.std.specs.Float.{nan, binary32}
 use Rattle.std.specs.Float.Ieee.{of_bits}
 use Rattle.pattern.specs.Binary32.{◌⊕◌, ◌⊗◌, +0}
 use Rattle.lists.specs.Lists.{tab}
+use Rattle.marks.specs.Live.{live_at}
 use Rattle.codes.specs.Packing.{bytes_per_vector}
 use Rattle.score.specs.Lanes.{lanes, bracketed}
-use Rattle.scan.specs.Scan.{takes_part}
 use Rattle.scan.specs.Pairs.{byte_term, pair_products}
 
 -- the k-th part of m entries
@@ -22,7 +22,7 @@ wide_lanes w pairs query block = lanes 4 (pair_products w pairs query block)
 
 -- Of `many` slots from `first` on the marked ones among the first s have their sums in their parts.
 pub record Summed (m : ℕ) (lanes_of : ℕ → List Float) (marks : List ℕ) (first many s : ℕ) (sums : List Float) : Type 0 where
-  pub each : (k : ℕ) → k < s → k < many → takes_part marks (first + k) ≡ true → part_at m k sums ≡ lanes_of (first + k)
+  pub each : (k : ℕ) → k < s → k < many → live_at marks (first + k) ≡ true → part_at m k sums ≡ lanes_of (first + k)
 
 -- the raw score of a block by the tables. At 4 bits nothing is left for the tail of a block of whole groups.
 unfoldable pub raw_by : (w : ℕ) → (evens odds pairs query : List Float) → (block : List ℕ) → Float
@@ -38,7 +38,7 @@ raw_from w sums k = cond (eqb w 4) (bracketed 3 (part_at 8 k sums) ⊕ +0) (brac
 
 -- From the sums of a group come the raw scores of its marked slots.
 pub record Raw (w : ℕ) (raw : ℕ → Float) (marks : List ℕ) (first many : ℕ) (sums : List Float) : Type 0 where
-  pub each : (k : ℕ) → k < many → takes_part marks (first + k) ≡ true → raw_from w sums k ≡ raw (first + k)
+  pub each : (k : ℕ) → k < many → live_at marks (first + k) ≡ true → raw_from w sums k ≡ raw (first + k)
 
 -- The entries from `from` up to `to` have become what g makes of them; the others stay.
 pub record Rescored (g : ℕ → Float → Float) (from to : ℕ) (all next : List Float) : Type 0 where
@@ -47,7 +47,7 @@ pub record Rescored (g : ℕ → Float → Float) (from to : ℕ) (all next : Li
   pub outside : (i : ℕ) → (from ≤ i → i < to → ⊥) → get_or next i nan ≡ get_or all i nan
 
 -- What the fast way needs of its arguments: a width that there is with its centroids, a query of whole groups of 16 entries, and arrays that have n slots whole.
-pub record Grouped (w centroids query size codes scales marks n : ℕ) : Type 0 where
+pub record Grouped (w centroids query size codes scales n : ℕ) : Type 0 where
   pub from : 4 ≤ w
   pub to : w ≤ 6
   pub table : centroids ≡ 2 ^ w
@@ -56,4 +56,3 @@ pub record Grouped (w centroids query size codes scales marks n : ℕ) : Type 0 
   pub block : size ≡ bytes_per_vector w query
   pub codes-there : n * size ≤ codes
   pub scales-there : n ≤ scales
-  pub marks-there : n ≤ marks

@@ -5,14 +5,16 @@
 // second loop: folded at once, they would not stay in vector registers.
 #![tactic(auto)]
 
-ghost use Rattle.std.specs.Prelude.{◌≡◌, true, cond, ℕ, ◌||◌, ◌+◌, ◌-◌, ◌*◌, ◌/◌, ◌%◌, ◌^◌, ◌≤◌, ◌<◌, ltb, length, take, drop, get_or};
+ghost use Rattle.std.specs.Prelude.{◌≡◌, true, cond, ℕ, ◌||◌, ◌+◌, ◌-◌, ◌*◌, ◌/◌, ◌%◌, ◌^◌, ◌≤◌, ◌<◌, length, take, drop, get_or};
 ghost use Rattle.std.specs.Float.{nan, binary32};
 ghost use Rattle.std.specs.Float.Ieee.{of_bits};
 ghost use Rattle.pattern.specs.Binary32.{◌⊕◌, ◌⊗◌};
 ghost use Rattle.std.proofs.lemmas.List.Edits.{sets};
 ghost use Rattle.lists.specs.Lists.{tab};
+ghost use Rattle.marks.specs.Live.{marks_in, live_at};
+ghost use Rattle.marks.specs.Word.{Lives};
 ghost use Rattle.digits.specs.Digits.{number, Below};
-ghost use Rattle.scan.specs.Scan.{takes_part, stage_of, score_after, score_now, scanned};
+ghost use Rattle.scan.specs.Scan.{stage_of, score_after, score_now, scanned};
 ghost use Rattle.scan.specs.Pairs.{Paired, Halved, byte_term, word_product};
 ghost use Rattle.scan.specs.Groups.{part_at, byte_lanes, wide_lanes, raw_by, score_by, raw_from, Summed, Raw, Rescored, Grouped};
 
@@ -25,7 +27,7 @@ struct Stage<'a> {
     size: usize,
     codes: &'a [u8],
     scales: &'a [u32],
-    marks: &'a [u8],
+    marks: &'a [u64],
     n: usize,
     second: bool,
     ghost bytes: { Below 256 codes.now },
@@ -45,7 +47,6 @@ struct Tabled<'a> {
     ghost block: { of.size ≡ length of.query.now / 8 * of.bits },
     ghost codes_there: { of.n * of.size ≤ length of.codes.now },
     ghost scales_there: { of.n ≤ length of.scales.now },
-    ghost marks_there: { of.n ≤ length of.marks.now },
     ghost evens_there: { length of.query.now / 2 ≤ length evens.now },
     ghost odds_there: { length of.query.now / 2 ≤ length odds.now },
     ghost pairs_there: { 8192 ≤ length pairs.now },
@@ -238,7 +239,7 @@ impl<'a> Tabled<'a> {
         }
     }
 
-    // ---- the sums of a group of slots, stored: of the k-th slot from place k * 8 on, or k * 4
+    // ---- the sums of a group of 64 slots, whose marks are a word, stored: of the k-th slot from place k * 8 on, or k * 4
 
     // The codes of a slot.
     fn block(&self, slot: usize) -> &[u8]
@@ -252,59 +253,63 @@ impl<'a> Tabled<'a> {
 
     // The sums of `many` slots from `first` on at 4 bits, as far as they are marked. By index: of what `chunks_exact_mut` lends nothing is known after the write.
     // That these slots are in use is a clause here and below: a struct of the two numbers with a ghost field would be longer.
-    fn sum_bytes(&self, first: usize, many: usize, sums: &mut [f32])
+    fn sum_bytes(&self, word: u64, first: usize, many: usize, sums: &mut [f32])
         requires width { self.now.of.bits ≡ 4 }
-        requires arrays { (first + many ≤ self.now.of.n) × (many * 8 ≤ length sums.old) }
+        requires arrays { (first + many ≤ self.now.of.n) × (many ≤ 64) × (many * 8 ≤ length sums.old) }
+        requires lives { Lives (marks_in self.now.of.marks.now) first word }
         ensures { Summed 8 (λ i. byte_lanes self.now.evens.now self.now.odds.now self.now.pairs.now
             (part_at self.now.of.size i self.now.of.codes.now))
-            self.now.of.marks.now first many many sums.new }
+            (marks_in self.now.of.marks.now) first many many sums.new }
     {
         for k in 0..many {
-            self.sum_slot(first + k, k * 8, sums);
+            self.sum_slot(word, first, k, sums);
         }
     }
 
-    // Those of one slot, if it is marked.
-    fn sum_slot(&self, slot: usize, at: usize, sums: &mut [f32])
+    // Those of the k-th slot, if it is marked.
+    fn sum_slot(&self, word: u64, first: usize, k: usize, sums: &mut [f32])
         requires width { self.now.of.bits ≡ 4 }
-        requires arrays { (slot < self.now.of.n) × (at + 8 ≤ length sums.old) }
-        ensures { sums.new ≡ cond (takes_part self.now.of.marks.now slot) (sets sums.old at
+        requires arrays { (first + k < self.now.of.n) × (k < 64) × (k * 8 + 8 ≤ length sums.old) }
+        requires lives { Lives (marks_in self.now.of.marks.now) first word }
+        ensures { sums.new ≡ cond (live_at (marks_in self.now.of.marks.now) (first + k)) (sets sums.old (k * 8)
             (byte_lanes self.now.evens.now self.now.odds.now self.now.pairs.now
-            (part_at self.now.of.size slot self.now.of.codes.now))) sums.old }
+            (part_at self.now.of.size (first + k) self.now.of.codes.now))) sums.old }
     {
-        if self.of.marks[slot] == 0 {
+        if !marks::is_set(word, k) {
             return;
         }
-        put(sums, at, self.byte_lanes(self.block(slot)));
+        put(sums, k * 8, self.byte_lanes(self.block(first + k)));
     }
 
     // Those of `many` slots from `first` on at 5 or 6 bits. A neighbour of a marked slot comes along. That there are 5 bits or 6
     // is a clause, here and below: the struct is of all widths.
-    fn sum_wide(&self, first: usize, many: usize, sums: &mut [f32])
+    fn sum_wide(&self, word: u64, first: usize, many: usize, sums: &mut [f32])
         requires width { 5 ≤ self.now.of.bits }
-        requires arrays { (first + many ≤ self.now.of.n) × (many * 4 ≤ length sums.old) }
+        requires arrays { (first + many ≤ self.now.of.n) × (many ≤ 64) × (many * 4 ≤ length sums.old) }
+        requires lives { Lives (marks_in self.now.of.marks.now) first word }
         ensures { Summed 4 (λ i. wide_lanes self.now.of.bits self.now.pairs.now self.now.of.query.now
             (part_at self.now.of.size i self.now.of.codes.now))
-            self.now.of.marks.now first many many sums.new }
+            (marks_in self.now.of.marks.now) first many many sums.new }
     {
         for half in 0..many.div_ceil(2) {
             let k = half * 2;
-            self.sum_two(first, k, (k + 1).min(many - 1), sums);
+            self.sum_two(word, first, k, (k + 1).min(many - 1), sums);
         }
     }
 
     // Those of the k-th and the j-th slot from `first` on, if any of them is marked.
-    fn sum_two(&self, first: usize, k: usize, j: usize, sums: &mut [f32])
+    fn sum_two(&self, word: u64, first: usize, k: usize, j: usize, sums: &mut [f32])
         requires width { 5 ≤ self.now.of.bits }
-        requires arrays { (first + k < self.now.of.n) × (first + j < self.now.of.n)
+        requires arrays { (first + k < self.now.of.n) × (first + j < self.now.of.n) × (k < 64) × (j < 64)
             × (k * 4 + 4 ≤ length sums.old) × (j * 4 + 4 ≤ length sums.old) }
-        ensures { sums.new ≡ cond (takes_part self.now.of.marks.now (first + k) || takes_part self.now.of.marks.now (first + j))
+        requires lives { Lives (marks_in self.now.of.marks.now) first word }
+        ensures { sums.new ≡ cond (live_at (marks_in self.now.of.marks.now) (first + k) || live_at (marks_in self.now.of.marks.now) (first + j))
             (sets (sets sums.old (k * 4) (wide_lanes self.now.of.bits self.now.pairs.now self.now.of.query.now
             (part_at self.now.of.size (first + k) self.now.of.codes.now)))
             (j * 4) (wide_lanes self.now.of.bits self.now.pairs.now self.now.of.query.now
             (part_at self.now.of.size (first + j) self.now.of.codes.now))) sums.old }
     {
-        if !self.is_any_marked(first + k, first + j) {
+        if !marks::is_set(word, k) && !marks::is_set(word, j) {
             return;
         }
         let two = self.two_lanes(self.block(first + k), self.block(first + j));
@@ -312,15 +317,9 @@ impl<'a> Tabled<'a> {
         put(sums, j * 4, two.other);
     }
 
-    // Whether one of two slots is marked.
-    fn is_any_marked(&self, one: usize, other: usize) -> bool
-        requires { (one < self.now.of.n) × (other < self.now.of.n) }
-        ensures { result ≡ (takes_part self.now.of.marks.now one || takes_part self.now.of.marks.now other) }
-    {
-        0 < self.of.marks[one] || 0 < self.of.marks[other]
-    }
-
-    // The sums of two blocks at 5 or 6 bits.
+    // The sums of two blocks at 5 or 6 bits. A function of its own to the compiler too: within its callers, one number more stays in a register through the
+    // sums, and a search takes 5% longer at 5 bits and 2% at 6.
+    #[inline(never)]
     fn two_lanes(&self, one: &[u8], other: &[u8]) -> Two
         requires width { 5 ≤ self.now.of.bits }
         requires blocks { (length one.now ≡ self.now.of.size) × (length other.now ≡ self.now.of.size) }
@@ -334,28 +333,30 @@ impl<'a> Tabled<'a> {
     }
 
     // The sums of a group at any of the three widths.
-    fn sum_group(&self, first: usize, many: usize, sums: &mut [f32])
-        requires { (first + many ≤ self.now.of.n) × (many * 8 ≤ length sums.old) }
+    fn sum_group(&self, word: u64, first: usize, many: usize, sums: &mut [f32])
+        requires arrays { (first + many ≤ self.now.of.n) × (many ≤ 64) × (many * 8 ≤ length sums.old) }
+        requires lives { Lives (marks_in self.now.of.marks.now) first word }
         ensures { Raw self.now.of.bits (λ i. raw_by self.now.of.bits self.now.evens.now self.now.odds.now
             self.now.pairs.now self.now.of.query.now (part_at self.now.of.size i self.now.of.codes.now))
-            self.now.of.marks.now first many sums.new }
+            (marks_in self.now.of.marks.now) first many sums.new }
     {
         if self.of.bits == 4 {
-            self.sum_bytes(first, many, sums);
+            self.sum_bytes(word, first, many, sums);
         } else {
-            self.sum_wide(first, many, sums);
+            self.sum_wide(word, first, many, sums);
         }
     }
 
     // ---- from the sums to the scores, in groups
 
     // What the entry of the k-th slot of a group from `first` on becomes.
-    fn group_entry(&self, sums: &[f32], first: usize, k: usize, old: f32) -> f32
-        requires { (k * 8 + 8 ≤ length sums.now) × (first + k < self.now.of.n) }
-        ensures { result ≡ score_after (takes_part self.now.of.marks.now (first + k)) self.now.of.second
+    fn group_entry(&self, sums: &[f32], word: u64, first: usize, k: usize, old: f32) -> f32
+        requires arrays { (k * 8 + 8 ≤ length sums.now) × (first + k < self.now.of.n) × (k < 64) }
+        requires lives { Lives (marks_in self.now.of.marks.now) first word }
+        ensures { result ≡ score_after (live_at (marks_in self.now.of.marks.now) (first + k)) self.now.of.second
             (raw_from self.now.of.bits sums.now k ⊗ of_bits binary32 (get_or self.now.of.scales.now (first + k) 0)) old }
     {
-        if self.of.marks[first + k] == 0 {
+        if !marks::is_set(word, k) {
             return old;
         }
         let scale = pattern::from_bits(self.of.scales[first + k]);
@@ -363,29 +364,47 @@ impl<'a> Tabled<'a> {
     }
 
     // The entries of `many` slots from `first` on.
-    fn enter_group(&self, sums: &[f32], first: usize, many: usize, all: &mut [f32])
-        requires { (many * 8 ≤ length sums.now) × (first + many ≤ self.now.of.n) × (first + many ≤ length all.old) }
+    fn enter_group(&self, sums: &[f32], word: u64, first: usize, many: usize, all: &mut [f32])
+        requires arrays { (many * 8 ≤ length sums.now) × (first + many ≤ self.now.of.n) × (many ≤ 64) × (first + many ≤ length all.old) }
+        requires lives { Lives (marks_in self.now.of.marks.now) first word }
         ensures { Rescored (score_now (λ i. raw_from self.now.of.bits sums.now (i - first)
-            ⊗ of_bits binary32 (get_or self.now.of.scales.now i 0)) self.now.of.marks.now self.now.of.second)
+            ⊗ of_bits binary32 (get_or self.now.of.scales.now i 0)) (marks_in self.now.of.marks.now) self.now.of.second)
             first (first + many) all.old all.new }
     {
         for (k, score) in all[first..first + many].iter_mut().enumerate() {
-            *score = self.group_entry(sums, first, k, *score);
+            *score = self.group_entry(sums, word, first, k, *score);
         }
     }
 
-    // All slots, in groups. That `all` has their places is a clause here and below: `all` is written, and a struct of it with a ghost field would be longer.
-    fn scan_groups(&self, sums: &mut [f32], all: &mut [f32])
-        requires { (self.now.of.n ≤ length all.old) × (2048 ≤ length sums.old) }
+    // The entries of one group. Most groups of a cascade have no candidate.
+    fn scan_group(&self, word: u64, first: usize, many: usize, sums: &mut [f32], all: &mut [f32])
+        requires arrays { (many * 8 ≤ length sums.old) × (first + many ≤ self.now.of.n) × (many ≤ 64) × (first + many ≤ length all.old) }
+        requires lives { Lives (marks_in self.now.of.marks.now) first word }
         ensures { Rescored (score_now (score_by self.now.of.bits self.now.evens.now self.now.odds.now self.now.pairs.now
             self.now.of.query.now self.now.of.size self.now.of.codes.now self.now.of.scales.now)
-            self.now.of.marks.now self.now.of.second) 0 self.now.of.n all.old all.new }
+            (marks_in self.now.of.marks.now) self.now.of.second) first (first + many) all.old all.new }
     {
-        for group in 0..self.of.n.div_ceil(256) {
-            let first = group * 256;
-            let many = (self.of.n - first).min(256);
-            self.sum_group(first, many, sums);
-            self.enter_group(sums, first, many, all);
+        if word == 0 {
+            return;
+        }
+        self.sum_group(word, first, many, sums);
+        self.enter_group(sums, word, first, many, all);
+    }
+
+    // All slots, in groups. That `all` has their places is a clause here and below: `all` is written, and a struct of it with a ghost field would be longer.
+    // A word, its first slot and how many slots it has, here, in `scan_plainly`, in hits and in nearest: an iterator that gave the three would have to say in its
+    // contract what it gives, which is longer than the lines.
+    fn scan_groups(&self, sums: &mut [f32], all: &mut [f32])
+        requires { (self.now.of.n ≤ length all.old) × (512 ≤ length sums.old) }
+        ensures { Rescored (score_now (score_by self.now.of.bits self.now.evens.now self.now.odds.now self.now.pairs.now
+            self.now.of.query.now self.now.of.size self.now.of.codes.now self.now.of.scales.now)
+            (marks_in self.now.of.marks.now) self.now.of.second) 0 self.now.of.n all.old all.new }
+    {
+        for group in 0..self.of.n.div_ceil(64) {
+            let word = marks::word_at(self.of.marks, group);
+            let first = group * 64;
+            let many = (self.of.n - first).min(64);
+            self.scan_group(word, first, many, sums, all);
         }
     }
 }
@@ -404,11 +423,12 @@ impl<'a> Stage<'a> {
     // ---- one slot after the other, at any sizes
 
     // What a slot's entry becomes.
-    fn plain_entry(&self, slot: usize, old: f32) -> f32
+    fn plain_entry(&self, marked: bool, slot: usize, old: f32) -> f32
+        requires { marked ≡ live_at (marks_in self.now.marks.now) slot }
         ensures { result ≡ score_now (stage_of self.now.bits self.now.centroids.now self.now.query.now self.now.size
-            self.now.codes.now self.now.scales.now) self.now.marks.now self.now.second slot old }
+            self.now.codes.now self.now.scales.now) (marks_in self.now.marks.now) self.now.second slot old }
     {
-        if self.marks.get(slot).copied().unwrap_or(0) == 0 {
+        if !marked {
             return old;
         }
         let block = codes::slot_codes(self.codes, slot, self.size);
@@ -419,13 +439,31 @@ impl<'a> Stage<'a> {
         )
     }
 
+    // The entries of `many` slots from `first` on, whose marks are a word.
+    fn plain_group(&self, word: u64, first: usize, many: usize, all: &mut [f32])
+        requires arrays { (first + many ≤ self.now.n) × (many ≤ 64) × (first + many ≤ length all.old) }
+        requires lives { Lives (marks_in self.now.marks.now) first word }
+        ensures { Rescored (score_now (stage_of self.now.bits self.now.centroids.now self.now.query.now self.now.size
+            self.now.codes.now self.now.scales.now) (marks_in self.now.marks.now) self.now.second) first (first + many) all.old all.new }
+    {
+        if word == 0 {
+            return;
+        }
+        for (k, score) in all[first..first + many].iter_mut().enumerate() {
+            *score = self.plain_entry(marks::is_set(word, k), first + k, *score);
+        }
+    }
+
     // The plain way, for short queries and arrays.
     fn scan_plainly(&self, all: &mut [f32])
         requires { self.now.n ≤ length all.old }
         ensures { Scores self.now all.old all.new }
     {
-        for (i, score) in all[..self.n].iter_mut().enumerate() {
-            *score = self.plain_entry(i, *score);
+        for group in 0..self.n.div_ceil(64) {
+            let word = marks::word_at(self.marks, group);
+            let first = group * 64;
+            let many = (self.n - first).min(64);
+            self.plain_group(word, first, many, all);
         }
     }
 
@@ -434,7 +472,7 @@ impl<'a> Stage<'a> {
     // True only where it can be gone.
     fn is_grouped(&self) -> bool
         ensures { result ≡ true → Grouped self.now.bits (length self.now.centroids.now) (length self.now.query.now) self.now.size
-            (length self.now.codes.now) (length self.now.scales.now) (length self.now.marks.now) self.now.n }
+            (length self.now.codes.now) (length self.now.scales.now) self.now.n }
     {
         if !(4..=6).contains(&self.bits) || self.centroids.len() != 1usize << self.bits {
             return false;
@@ -445,16 +483,16 @@ impl<'a> Stage<'a> {
         if self.size == 0 || self.size != codes::bytes_per_vector(self.query.len(), self.bits) {
             return false;
         }
-        if self.codes.len() / self.size < self.n || self.scales.len() < self.n {
+        if self.codes.len() / self.size < self.n {
             return false;
         }
-        self.n <= self.marks.len()
+        self.n <= self.scales.len()
     }
 
     // In groups, by tables.
     fn scan_grouped(&self, all: &mut [f32])
         requires grouped { Grouped self.now.bits (length self.now.centroids.now) (length self.now.query.now) self.now.size
-            (length self.now.codes.now) (length self.now.scales.now) (length self.now.marks.now) self.now.n }
+            (length self.now.codes.now) (length self.now.scales.now) self.now.n }
         requires places { self.now.n ≤ length all.old }
         ensures { Scores self.now all.old all.new }
     {
@@ -469,7 +507,7 @@ impl<'a> Stage<'a> {
             odds: &odds,
             pairs: &pairs,
         };
-        let mut sums = [0.0f32; 2048];
+        let mut sums = [0.0f32; 512];
         tables.scan_groups(&mut sums, all);
     }
 
@@ -496,13 +534,13 @@ pub fn stage_scores(
     size: usize,
     codes: &[u8],
     scales: &[u32],
-    marks: &[u8],
+    marks: &[u64],
     n: usize,
     second: bool,
     all: &mut [f32],
 )
     ensures { all.new ≡ scanned (stage_of bits centroids.now query.now size codes.now scales.now)
-        marks.now second n all.old }
+        (marks_in marks.now) second n all.old }
 {
     if all.len() < n {
         return;

@@ -30,7 +30,7 @@ pub extern "C" fn vecq_raw_score(
     keys: &[u64],
     keyed: &[bool],
     held: &[u32],
-    alive: &[u8],
+    alive: &[u64],
     codes2: &[u8],
     scales2: &[u32],
     slot: usize,

@@ -11,6 +11,7 @@ use Rattle.lists.specs.Keep.{bit, keep, count}
 use Rattle.lists.proofs.Laws.{length-tab, get_or-tab}
 use Rattle.lists.proofs.Front.{get_d_front, each-tab}
 use Rattle.lists.proofs.Keep.{keep-map, count_map, length-keep, keep_same}
+use Rattle.marks.specs.Live.{live_at}
 use Rattle.unit.proofs.Rotatable.{padded-most}
 use Rattle.index.specs.declared.Index.{Index}
 use Rattle.index.specs.Arrays.{Arrays}
@@ -24,7 +25,6 @@ use Rattle.nearest.specs.Distances.{distance_at}
 use Rattle.nearest.proofs.Distance.{distance-slot, distance-below}
 use Rattle.nearest.specs.Nearest.{before, is_near, near_marks}
 use Rattle.nearest.proofs.Nearest.{near-count}
-use Rattle.scan.specs.Scan.{takes_part}
 use Rattle.asking.proofs.Cells.{cells}
 use Rattle.asking.proofs.Live.{live-cells, live-length}
 
@@ -54,7 +54,7 @@ module _ (x : Index) (a : Arrays) (q : Query) (r : ℕ) where
   cell = cell_at (slot_at (header_of x) a) x.n
 
   abbrev live : List ℕ
-  live = keep (takes_part a.alive) (below x.n)
+  live = keep (live_at a.alive) (below x.n)
 
   slot-distance : (i : ℕ) → distance (header_of x) q (slot_at (header_of x) a i).code ≡ distance_at (header_of x) a.codes q i
   slot-distance i = sym (distance-slot (header_of x) a q i)
@@ -71,16 +71,16 @@ module _ (x : Index) (a : Arrays) (q : Query) (r : ℕ) where
       ∙ ap (map cell) (
       (λ k. keep (λ j. ltb (count_map cell (λ c. nearer (header_of x) q c (cell j)) live k) r) live)
       ∙ (λ k. keep (λ j. ltb (count (λ i. same-before i j k) live) r) live)
-      ∙ keep-both (λ j. ltb (count (λ i. before (distance_at (header_of x) a.codes q) a.alive x.n i j) live) r) (takes_part a.alive) (below x.n)
+      ∙ keep-both (λ j. ltb (count (λ i. before (distance_at (header_of x) a.codes q) a.alive x.n i j) live) r) (live_at a.alive) (below x.n)
       )
 
   -- and so are the slots with such marks
-  module _ (marks : List ℕ) (are : (i : ℕ) → i < x.n → takes_part marks i ≡ near i) where
+  module _ (marks : List ℕ) (are : (i : ℕ) → i < x.n → live_at marks i ≡ near i) where
     pub candidates-marked : candidate_cells ≡ cells (header_of x) a marks x.n
     candidates-marked =
-        candidates-near ∙ ap (map cell) (sym (keep_same (takes_part marks) near (below x.n) (each-tab (λ i. takes_part marks i ≡ near i) (λ i. i) x.n are)))
+        candidates-near ∙ ap (map cell) (sym (keep_same (live_at marks) near (below x.n) (each-tab (λ i. live_at marks i ≡ near i) (λ i. i) x.n are)))
 
-  pub marks-are : (places : List ℕ) (i : ℕ) → i < x.n → takes_part (over (near_marks (distance_at (header_of x) a.codes q) a.alive x.n r) places) i ≡ near i
+  pub marks-are : (places : List ℕ) (i : ℕ) → i < x.n → live_at (over (near_marks (distance_at (header_of x) a.codes q) a.alive x.n r) places) i ≡ near i
   unfolding near_marks
   marks-are places i l =
       ap (ltb 0) (get_d_front (tab (λ i. bit (near i)) x.n) places i 0 (rw (length-tab (λ i. bit (near i)) x.n) l) ∙ get_or-tab (λ i. bit (near i)) x.n i 0 l)
@@ -91,7 +91,7 @@ module _ (x : Index) (a : Arrays) (q : Query) (r : ℕ) where
   candidates-count e width =
       let f = ((meaning x a).yes e).fields in
       let lanes = padded-most x.working_dim (omega (arith, f.working-high, f.dim-high)) in
-      let many = sym (length-map live cell ∙ length-keep (takes_part a.alive) (below x.n)) ∙ sym (ap length (live-cells x a)) ∙ live-length x a e in
+      let many = sym (length-map live cell ∙ length-keep (live_at a.alive) (below x.n)) ∙ sym (ap length (live-cells x a)) ∙ live-length x a e in
       ap length candidates-near ∙ length-map (keep near (below x.n)) cell ∙ length-keep near (below x.n)
       ∙ near-count (distance_at (header_of x) a.codes q) a.alive x.n (λ i. distance-below (header_of x) a.codes q i lanes width) r
       ∙ ap (min r) many

@@ -10,6 +10,7 @@ use lib.Ieee.{Float, is_nan}
 use borrow.Author.Tests.{le-leb, ltb-false, eqb-true, eq-eqb}
 use Rattle.lists.specs.Lists.{over, below}
 use Rattle.lists.specs.Keep.{keep, any}
+use Rattle.marks.specs.Live.{live_at}
 use Rattle.choose.specs.Choose.{choose}
 use Rattle.choose.proofs.Choice.{choose-length}
 use Rattle.score.specs.Order.{order_number}
@@ -33,7 +34,6 @@ use Rattle.nearest.specs.Distances.{distance_at}
 use Rattle.nearest.specs.Nearest.{near_marks}
 use Rattle.nearest.specs.Nearest as Nearest
 use Rattle.score_slot.proofs.Query.{query-rotatable}
-use Rattle.scan.specs.Scan.{takes_part}
 use Rattle.hits.specs.Hits.{Listed, scored_slots, chosen, ready, shown, list_answer}
 use Rattle.std.specs.Prelude.{Ok}
 use Rattle.asking.specs.Faults.{places_fault}
@@ -90,7 +90,7 @@ module _ (x : Index) (a : Arrays) (q : Query) (k r places : ℕ) where
   live_cells = live_from 0 (state_of x a).slots
 
   -- marks of the candidates
-  module _ (marks : List ℕ) (are : (i : ℕ) → i < x.n → takes_part marks i ≡ near x a q many i) where
+  module _ (marks : List ℕ) (are : (i : ℕ) → i < x.n → live_at marks i ≡ near x a q many i) where
     abbrev candidate_hits : List (ℕ × Float)
     candidate_hits = chosen (scores (header_of x) a q) marks x.n k
 
@@ -159,7 +159,7 @@ module _ (x : Index) (a : Arrays) (q : Query) (k r places : ℕ) where
         marks : List ℕ
         marks = over (near_marks (distance_at (header_of x) a.codes q) a.alive x.n many) []
 
-        are : (i : ℕ) → i < x.n → takes_part marks i ≡ near x a q many i
+        are : (i : ℕ) → i < x.n → live_at marks i ≡ near x a q many i
         are = marks-are x a q many []
 
         go : (b c : Bool) → fit x a ≡ b → enabled x ≡ c → result_of x a (refused f) ≡ call x a (Step.search_cascade q k r places)
@@ -199,17 +199,17 @@ module _ (x : Index) (a : Arrays) (q : Query) (k r places : ℕ) where
       module _ (old marks : List ℕ) (size : length old ≡ 65536) (n : ℕ) (wanted : n ≡ many)
           (set : marks ≡ cond (Nearest.cascadable x.n (length old) x.bits x.working_dim (length q.vector))
           (over (near_marks (distance_at (header_of x) a.codes q) a.alive x.n n) old) old) where
-        marks-set : (i : ℕ) → i < x.n → takes_part marks i ≡ near x a q many i
+        marks-set : (i : ℕ) → i < x.n → live_at marks i ≡ near x a q many i
         marks-set i l =
             let e : marks ≡ over (near_marks (distance_at (header_of x) a.codes q) a.alive x.n many) old = set ∙ rw (marking-ready old size, wanted) in
-            ap (λ (ms : List ℕ). takes_part ms i) e ∙ marks-are x a q many old i l
+            ap (λ (ms : List ℕ). live_at ms i) e ∙ marks-are x a q many old i l
 
         listed-length : length (candidate_hits marks marks-set) ≡ min (max k 1) (min many x.live)
         unfolding scored_slots
         listed-length =
             choose-length (λ (e : ℕ × Float). order_number e.1) k (scored_slots (scores (header_of x) a q) marks x.n)
-            ∙ ap (min (max k 1)) (length-map (keep (takes_part marks) (below x.n)) (λ (i : ℕ). (i, scores (header_of x) a q i))
-            ∙ sym (length-map (keep (takes_part marks) (below x.n)) (cell_at (slot_at (header_of x) a) x.n)) ∙ cells_count marks marks-set passed.0 passed.1)
+            ∙ ap (min (max k 1)) (length-map (keep (live_at marks) (below x.n)) (λ (i : ℕ). (i, scores (header_of x) a q i))
+            ∙ sym (length-map (keep (live_at marks) (below x.n)) (cell_at (slot_at (header_of x) a) x.n)) ∙ cells_count marks marks-set passed.0 passed.1)
 
         listed-fits : length (candidate_hits marks marks-set) ≤ places
         listed-fits = go (ltb places (min (max k 1) x.live)) refl passed.2

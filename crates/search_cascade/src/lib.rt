@@ -70,8 +70,8 @@ pub fn search_cascade(
         × LaterKept (how_many (verdict result)) scores.old scores.new }
 {
     check(index, arrays, query, k, slots.len(), scores.len())?;
-    // A mark for each of 65,536 slots. The contents don't matter.
-    let mut marks = [0u8; 65536];
+    // A mark for each of 65,536 slots, in words. The contents don't matter.
+    let mut marks = [0u64; 1024];
     let many = candidates_wanted(k, r, index.live);
     nearest::mark_nearest(index, arrays.codes, arrays.alive, query, many, &mut marks);
     // After these tests the list can be made: where there is none, a score is NaN.

@@ -17,7 +17,7 @@ pub extern "C" fn vecq_raw_set_bits(
     keys: &[u64],
     keyed: &[bool],
     held: &[u32],
-    alive: &[u8],
+    alive: &[u64],
     codes2: &[u8],
     scales2: &[u32],
     bits: u8,
@@ -50,7 +50,7 @@ pub extern "C" fn vecq_raw_enable_cascade(
     keys: &[u64],
     keyed: &[bool],
     held: &[u32],
-    alive: &[u8],
+    alive: &[u64],
     codes2: &[u8],
     scales2: &[u32],
 ) -> u8

@@ -14,18 +14,18 @@ use Rattle.score.specs.declared.Scored.{Scored}
 use Rattle.index.specs.declared.Index.{Index}
 use Rattle.index.specs.Verdict.{Verdict, granted, turned_down}
 use Rattle.index.specs.declared.Added.{Added}
-use Rattle.index.specs.Arrays.{Arrays}
-use Rattle.index.specs.State.{record_of}
+use Rattle.index.specs.Arrays.{Arrays, unmarked}
+use Rattle.index.specs.State.{record_of, overlay}
 use Rattle.index.specs.Step.{first_of, Op, Answer, refused, flag, slot}
 use Rattle.index.specs.Call.{Result, call}
 use Rattle.index.specs.Answers.{result_of, made, added, changed, asked, key_is, held_is, scored, length_is, how_many, wrote, LaterKept}
 use Rattle.index.proofs.Refusals.{never-0}
-use Rattle.index.specs.Make.{Begun, begun, make}
-use Rattle.index.specs.Read.{state_in, read_refusal, read_unless, read_into}
+use Rattle.index.specs.Make.{Begun, begun, make, begun_unless, empty, make_refusal}
+use Rattle.index.specs.Read.{state_in, read_refusal, read_into, slots_in}
 use Rattle.std.specs.Prelude.{Bool, true, false, Option, Some, None}
 use Rattle.words.specs.Words.{Record, record_words, words_of, record_in, record_beside}
 use Rattle.words.specs.Put.{Put, put, in_words, put_answer, put_made, put_count, PutBoth, put_both, put_next, put_added, put_changed}
-use Rattle.words.specs.Exports.{by_record, Left, left, leaves, left_by, makes, reads, count_in_words, word_count, answer_beside}
+use Rattle.words.specs.Exports.{by_record, left, leaves, left_by, begins, count_in_words, word_count, answer_beside}
 use Rattle.words.proofs.Records.{eight, beside, written-again}
 use Rattle.words.proofs.Words.{words-short, words-put, count-told}
 
@@ -178,37 +178,51 @@ module _ (fs : List ℕ) (r : Record) (e : r ≡ record_in fs) (op : Op) (a : Ar
     made-left (granted y) g = by-record _ g _ (ap (λ (q : Put). left q.number q.words [] b) (sym (record-put fs (eight fs x (sym is ∙ e)) y)))
     made-left (turned_down k) g = by-record _ g _ (refusal-left 0 fs [] r (e ∙ beside_none fs) x is k b)
 
-module _ (file fs : List ℕ) (a : Arrays) where
-  -- what is left of the record that reading answers, by its refusal
+-- of what making or reading would begin, x in the arrays b, unless it is refused
+module _ (x : Index) (a b : Arrays) (fs : List ℕ) where
   abbrev words_after : (refusal : ℕ) → Put
-  words_after m = put_made (read_unless m a file).answer fs
+  words_after m = put_made (begun_unless m x a b).answer fs
 
-  abbrev read_after : (refusal : ℕ) → Left
-  read_after m = left (words_after m).number (words_after m).words [] (cond (eqb (words_after m).number 0) (read_unless m a file).arrays a)
-
-  pub read_short : length fs < record_words → (n : ℕ) → n ≡ first_of (read_refusal file a ∷ 13 ∷ []) → left n fs [] a ≡ reads file fs a
-  unfolding reads read_into first_of words_of
-  read_short h n e = ap (λ (m : ℕ). left m fs [] a) e ∙ go (read_refusal file a)
+  -- without places for the record
+  begun-short : length fs < record_words → (m n : ℕ) → n ≡ first_of (m ∷ 13 ∷ []) → left n fs [] a ≡ begins (begun_unless m x a b) fs a
+  unfolding begins first_of words_of
+  begun-short h m n e = ap (λ (k : ℕ). left k fs [] a) e ∙ go m
     where
-      go : (m : ℕ) → left (first_of (m ∷ 13 ∷ [])) fs [] a ≡ read_after m
-      go zero = ap (λ (q : Put). left q.number q.words [] (cond (eqb q.number 0) (read_unless 0 a file).arrays a)) (words-short 0 (words_of (record_of (state_in file))) fs h)
+      go : (m : ℕ) → left (first_of (m ∷ 13 ∷ [])) fs [] a ≡ begins (begun_unless m x a b) fs a
+      go zero = ap (λ (q : Put). left q.number q.words [] (cond (eqb q.number 0) b a)) (words-short 0 (words_of x) fs h)
       go (suc m) = rw (ne_eqb (suc m) 0 (λ q. omega (arith, q)))
 
-  pub read_done : record_words ≤ length fs → (d : Verdict Index) (b : Arrays) → begun d b ≡ read_into a file → (n : ℕ) (fs' : List ℕ) → put n fs' ≡ put_made d fs → left n fs' [] b ≡ reads file fs a
-  unfolding reads read_into words_of
-  read_done h d b g n fs' p =
-      ap (λ (q : Put). left q.number q.words [] b) p ∙ ap (λ (y : Begun). left (put_made y.answer fs).number (put_made y.answer fs).words [] y.arrays) g
-      ∙ go (read_refusal file a)
+  -- with them
+  begun-done : record_words ≤ length fs → (m : ℕ) (d : Verdict Index) (c : Arrays) → begun d c ≡ begun_unless m x a b →
+      (n : ℕ) (fs' : List ℕ) → put n fs' ≡ put_made d fs → left n fs' [] c ≡ begins (begun_unless m x a b) fs a
+  unfolding begins words_of
+  begun-done h m d c g n fs' p =
+      ap (λ (q : Put). left q.number q.words [] c) p ∙ ap (λ (y : Begun). left (put_made y.answer fs).number (put_made y.answer fs).words [] y.arrays) g
+      ∙ go m
     where
-      go : (m : ℕ) → left (words_after m).number (words_after m).words [] (read_unless m a file).arrays ≡ read_after m
+      go : (m : ℕ) → left (words_after m).number (words_after m).words [] (begun_unless m x a b).arrays ≡ begins (begun_unless m x a b) fs a
       go zero =
-          subst (λ (q : Put). left q.number q.words [] (read_unless 0 a file).arrays ≡ left q.number q.words [] (cond (eqb q.number 0) (read_unless 0 a file).arrays a))
-          (words-put 0 (words_of (record_of (state_in file))) fs h) refl
+          subst (λ (q : Put). left q.number q.words [] b ≡ left q.number q.words [] (cond (eqb q.number 0) b a)) (words-put 0 (words_of x) fs h) refl
       go (suc m) = rw (ne_eqb (suc m) 0 (λ q. omega (arith, q)))
 
--- making
-pub make-done : (h : Header) (a : Arrays) (d : Verdict Index) → begun d a ≡ make h a → (fs : List ℕ) (n : ℕ) (fs' : List ℕ) → put n fs' ≡ put_made d fs →
-    left n fs' [] a ≡ makes h fs a
-unfolding makes
-make-done h a d g fs n fs' p =
-    ap (λ (q : Put). left q.number q.words [] a) p ∙ ap (λ (y : Begun). left (put_made y.answer fs).number (put_made y.answer fs).words [] y.arrays) g
+-- ---- making and reading
+
+pub make-short : (h : Header) (a : Arrays) (fs : List ℕ) → length fs < record_words →
+    (n : ℕ) → n ≡ first_of (make_refusal h a ∷ 13 ∷ []) → left n fs [] a ≡ begins (make h a) fs a
+unfolding make
+make-short h a fs l = begun-short (record_of (empty h)) a (unmarked a) fs l (make_refusal h a)
+
+pub make-done : (h : Header) (a : Arrays) (fs : List ℕ) → record_words ≤ length fs → (d : Verdict Index) (c : Arrays) → begun d c ≡ make h a →
+    (n : ℕ) (fs' : List ℕ) → put n fs' ≡ put_made d fs → left n fs' [] c ≡ begins (make h a) fs a
+unfolding make
+make-done h a fs l = begun-done (record_of (empty h)) a (unmarked a) fs l (make_refusal h a)
+
+pub read_short : (file fs : List ℕ) (a : Arrays) → length fs < record_words →
+    (n : ℕ) → n ≡ first_of (read_refusal file a ∷ 13 ∷ []) → left n fs [] a ≡ begins (read_into a file) fs a
+unfolding read_into
+read_short file fs a l = begun-short (record_of (state_in file)) a (overlay (unmarked a) (slots_in file)) fs l (read_refusal file a)
+
+pub read_done : (file fs : List ℕ) (a : Arrays) → record_words ≤ length fs → (d : Verdict Index) (c : Arrays) → begun d c ≡ read_into a file →
+    (n : ℕ) (fs' : List ℕ) → put n fs' ≡ put_made d fs → left n fs' [] c ≡ begins (read_into a file) fs a
+unfolding read_into
+read_done file fs a l = begun-done (record_of (state_in file)) a (overlay (unmarked a) (slots_in file)) fs l (read_refusal file a)

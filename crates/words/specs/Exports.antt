@@ -2,21 +2,19 @@
 -- its record and its answer over the first places of `fields` and `answer`.
 use Rattle.std.specs.Prelude.{cond, List, [], ℕ, zero, suc, get_or, eqb}
 use Rattle.lists.specs.Lists.{over}
-use Rattle.encode.specs.declared.Header.{Header}
 use Rattle.index.specs.declared.Index.{Index}
 use Rattle.index.specs.Verdict.{Verdict, granted, turned_down}
 use Rattle.index.specs.Arrays.{Arrays}
 use Rattle.index.specs.Step.{Op, Answer, refused}
 use Rattle.index.specs.Call.{Result, call}
-use Rattle.index.specs.Make.{make}
-use Rattle.index.specs.Read.{read_into}
+use Rattle.index.specs.Make.{Begun}
 use Rattle.std.specs.Prelude.{Some, None}
 use Rattle.words.specs.Words.{Record, words_of, record_beside}
 use Rattle.words.specs.Put.{in_words, put_made}
 
 -- The number of this set of raw signatures. Whoever changes one raises it, since a stale declaration of twenty arguments still links.
 abbrev pub abi : ℕ
-abi = 1
+abi = 2
 
 abbrev pub by_record : {A : Type 0} → Record → (misfit : A) → (Index → A) → A
 by_record None m f = m
@@ -44,19 +42,11 @@ leaves r fs ws =
 unfoldable pub left_by : (places : ℕ) → Op → (fields answer : List ℕ) → Arrays → Left
 left_by p op fs ws a = by_record (record_beside p fs ws) (left 13 fs ws a) (λ x. leaves (call x a op) fs ws)
 
--- making: it has no record to read, and its own tests come before the places for the record
-unfoldable pub makes : Header → (fields : List ℕ) → Arrays → Left
-makes h fs a =
-    let m = make h a in
-    let p = put_made m.answer fs in
-    left p.number p.words [] m.arrays
-
--- reading: as in making, its own tests come before the places for the record. Where it is refused no array is written.
-unfoldable pub reads : (file fields : List ℕ) → Arrays → Left
-reads file fs a =
-    let r = read_into a file in
-    let p = put_made r.answer fs in
-    left p.number p.words [] (cond (eqb p.number 0) r.arrays a)
+-- Making and reading: they have no record to read, and their own tests come before the places for the record. Where they are refused no array is written.
+unfoldable pub begins : Begun → (fields : List ℕ) → Arrays → Left
+begins b fs a =
+    let p = put_made b.answer fs in
+    left p.number p.words [] (cond (eqb p.number 0) b.arrays a)
 
 -- ---- searches and writing: they change no record, and their answer is in the number, the first word of `answer` and the lent slices
 

@@ -10,6 +10,7 @@ ghost use Rattle.index.specs.File.{le_bytes, width_byte, head_bytes};
 ghost use Rattle.index.specs.Step as Step;
 ghost use Rattle.index.specs.Call.{call};
 ghost use Rattle.index.specs.Answers.{result_of, how_many, wrote, LaterKept};
+ghost use Rattle.marks.specs.Live.{marks_in};
 ghost use Rattle.layout.specs.Counts.{entry_at};
 ghost use Rattle.write.specs.Put.{Room, Put};
 ghost use Rattle.write.specs.Pieces.{in_order, scale_piece, code_piece, key_piece, stage_pieces, second_pieces, file_pieces};
@@ -49,9 +50,9 @@ impl Writer<'_> {
     // ---- what is written of one slot: nothing of a dead one
 
     // The scale as a half; a scale past the end counts as 0.
-    fn put_scale(&mut self, scales: &[u32], alive: &[u8], slot: usize)
-        requires { Room (scale_piece scales.now alive.now slot) self.old }
-        ensures { Put (scale_piece scales.now alive.now slot) self.old self.new }
+    fn put_scale(&mut self, scales: &[u32], alive: &[u64], slot: usize)
+        requires { Room (scale_piece scales.now (marks_in alive.now) slot) self.old }
+        ensures { Put (scale_piece scales.now (marks_in alive.now) slot) self.old self.new }
     {
         if !marks::is_live(alive, slot) {
             return;
@@ -62,9 +63,9 @@ impl Writer<'_> {
     }
 
     // The codes.
-    fn put_block(&mut self, codes: &[u8], alive: &[u8], block: usize, slot: usize)
-        requires { Room (code_piece codes.now alive.now block slot) self.old }
-        ensures { Put (code_piece codes.now alive.now block slot) self.old self.new }
+    fn put_block(&mut self, codes: &[u8], alive: &[u64], block: usize, slot: usize)
+        requires { Room (code_piece codes.now (marks_in alive.now) block slot) self.old }
+        ensures { Put (code_piece codes.now (marks_in alive.now) block slot) self.old self.new }
     {
         if !marks::is_live(alive, slot) {
             return;
@@ -90,18 +91,18 @@ impl Writer<'_> {
     // keeps a number besides. By slot: `alive` and what is written out are both read at it, and either may
     // be shorter than n.
 
-    fn put_scales(&mut self, scales: &[u32], alive: &[u8], n: usize)
-        requires { Room (in_order (scale_piece scales.now alive.now) n) self.old }
-        ensures { Put (in_order (scale_piece scales.now alive.now) n) self.old self.new }
+    fn put_scales(&mut self, scales: &[u32], alive: &[u64], n: usize)
+        requires { Room (in_order (scale_piece scales.now (marks_in alive.now)) n) self.old }
+        ensures { Put (in_order (scale_piece scales.now (marks_in alive.now)) n) self.old self.new }
     {
         for i in 0..n {
             self.put_scale(scales, alive, i);
         }
     }
 
-    fn put_codes(&mut self, codes: &[u8], alive: &[u8], block: usize, n: usize)
-        requires { Room (in_order (code_piece codes.now alive.now block) n) self.old }
-        ensures { Put (in_order (code_piece codes.now alive.now block) n) self.old self.new }
+    fn put_codes(&mut self, codes: &[u8], alive: &[u64], block: usize, n: usize)
+        requires { Room (in_order (code_piece codes.now (marks_in alive.now) block) n) self.old }
+        ensures { Put (in_order (code_piece codes.now (marks_in alive.now) block) n) self.old self.new }
     {
         for i in 0..n {
             self.put_block(codes, alive, block, i);
@@ -109,9 +110,9 @@ impl Writer<'_> {
     }
 
     // The scales and the codes of one stage.
-    fn put_stage(&mut self, codes: &[u8], scales: &[u32], alive: &[u8], block: usize, n: usize)
-        requires { Room (stage_pieces codes.now scales.now alive.now block n) self.old }
-        ensures { Put (stage_pieces codes.now scales.now alive.now block n) self.old self.new }
+    fn put_stage(&mut self, codes: &[u8], scales: &[u32], alive: &[u64], block: usize, n: usize)
+        requires { Room (stage_pieces codes.now scales.now (marks_in alive.now) block n) self.old }
+        ensures { Put (stage_pieces codes.now scales.now (marks_in alive.now) block n) self.old self.new }
     {
         self.put_scales(scales, alive, n);
         self.put_codes(codes, alive, block, n);

@@ -19,7 +19,7 @@ pub extern "C" fn vecq_raw_file_length(
     keys: &[u64],
     keyed: &[bool],
     held: &[u32],
-    alive: &[u8],
+    alive: &[u64],
     codes2: &[u8],
     scales2: &[u32],
 ) -> u8
@@ -52,7 +52,7 @@ pub extern "C" fn vecq_raw_to_bytes(
     keys: &[u64],
     keyed: &[bool],
     held: &[u32],
-    alive: &[u8],
+    alive: &[u64],
     codes2: &[u8],
     scales2: &[u32],
     file: &mut [u8],

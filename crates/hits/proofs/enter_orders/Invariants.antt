@@ -1,10 +1,14 @@
 use mathlib.Core.Path.{◌≡◌}
-use Prim.Native.Nat.{◌≤◌}
+use mathlib.Core.Bool.{true}
+use Prim.Native.Nat.{◌*◌, min}
 use lib.ListN.{length, get_or}
 use lib.Ieee.{nan}
-use Rattle.hits.proofs.Entering.{Begun}
+use Rattle.marks.specs.Live.{marks_in}
+use Rattle.hits.specs.Steps.{EntersSlots}
 use Rattle.hits.proofs.enter_orders.Given as goal
 
 -- `hits::enter_orders` meets its contract.
-abbrev pub invariant-loop-i : goal.invariant-loop-i
-invariant-loop-i l = (l.i ≤ l.n) × (length l.all ≡ length l.initial.all) × (length l.orders ≡ length l.initial.orders) × Begun (λ j. get_or l.initial.all j nan) l.marks l.initial.all l.initial.orders l.all l.orders l.i
+abbrev pub invariant-loop-group : goal.invariant-loop-group
+invariant-loop-group l =
+    (length l.all ≡ length l.fn.all) × (length l.orders ≡ length l.fn.orders)
+    × EntersSlots (λ j. get_or l.fn.all j nan) (marks_in l.marks) (min (l.group * 64) l.n) l.fn.all l.all l.fn.orders l.orders true

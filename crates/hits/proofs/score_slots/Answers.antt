@@ -4,6 +4,7 @@ use Rattle.codes.specs.Packing.{bytes_per_vector}
 use Rattle.codes.proofs.Tests.{at_width_lem}
 use Rattle.encode.specs.Header.{block_size}
 use Rattle.index.specs.State.{header_of}
+use Rattle.marks.specs.Live.{marks_in}
 use Rattle.hits.proofs.Scored.{one-stage, two-stages}
 use Rattle.hits.proofs.score_slots.Goals as goal
 
@@ -14,7 +15,7 @@ returns-then-index c =
     ∙ ap (bytes_per_vector c.args.index.bits) c.padded_dim.ensures in
     let a = c.args in
     two-stages (header_of a.index) a.arrays.now.codes.now a.arrays.now.scales.now a.arrays.now.codes2.now a.arrays.now.scales2.now a.centroids.now a.prepared.now _
-    size_is a.marks.now a.index.n a.all.now _ c.requires.2 c.stage_scores.ensures _ c.if-index.true c.stage_scores-then-index.ensures
+    size_is (marks_in a.marks.now) a.index.n a.all.now _ c.requires.2 c.stage_scores.ensures _ c.if-index.true c.stage_scores-then-index.ensures
 
 pub returns-else-index : goal.returns-else-index
 returns-else-index c =
@@ -23,4 +24,4 @@ returns-else-index c =
     ∙ ap (bytes_per_vector c.args.index.bits) c.padded_dim.ensures in
     let a = c.args in
     one-stage (header_of a.index) a.arrays.now.codes.now a.arrays.now.scales.now a.arrays.now.codes2.now a.arrays.now.scales2.now a.centroids.now a.prepared.now _
-    size_is a.marks.now a.index.n a.all.now _ c.requires.2 c.stage_scores.ensures c.if-index.false
+    size_is (marks_in a.marks.now) a.index.n a.all.now _ c.requires.2 c.stage_scores.ensures c.if-index.false

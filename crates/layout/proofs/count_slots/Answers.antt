@@ -1,28 +1,39 @@
-use Rattle.std.proofs.Common.{◌≡◌, min, length, sym, ap, ◌∙◌, arith}
-use Rattle.lists.proofs.Bits.{as-bit, one_at_most}
-use Rattle.marks.specs.Live.{live_at}
-use Rattle.layout.specs.Counts.{entry_at, counts_of}
-use Rattle.layout.proofs.Counting.{count-one, count-few, counts-there}
+use Prim.Native.Nat.{◌/◌}
+use Rattle.std.proofs.Common.{◌≡◌, min, length, refl, ap, ◌∙◌, arith}
+use Rattle.marks.specs.Live.{marks_in}
+use Rattle.marks.proofs.Words.{length-marks}
+use Rattle.layout.specs.Counts.{counts_of}
+use Rattle.layout.proofs.Counting.{counts-there}
+use Rattle.layout.proofs.Words.{few-keyed, counts-last, few-counts}
 use Rattle.layout.proofs.count_slots.Goals as goal
 
-pub overflow_add-live : goal.overflow_add-live
-overflow_add-live c = omega (arith, count-few (live_at c.args.alive.now) c.loop-i.i, one_at_most c.is_live.result)
+pub word_entries-requires : goal.word_entries-requires
+word_entries-requires c = rw c.keyed_of_word.ensures (few-keyed c.args.keyed.now (c.min-slots.result / 64))
 
-pub overflow_add-entries : goal.overflow_add-entries
-overflow_add-entries c = omega (arith, count-few (entry_at c.args.keyed.now c.args.alive.now) c.loop-i.i, one_at_most c.has_entry.result)
+pub overflow_add-result : goal.overflow_add-result
+overflow_add-result c =
+    let keyed = c.args.keyed.now in
+    let marks = marks_in c.args.alive.now in
+    let counts =
+    counts-last marks keyed c.min-slots.result c.word_at.result c.word_at.ensures c.count_words-first.result c.first_bits-word.result _ _
+    c.count_words-first.ensures c.first_bits-word.ensures c.first_bits-word.type_inv refl refl in
+    omega (arith, (few-counts keyed marks c.min-slots.result _ counts).0)
 
-pub loop-i-preserved : goal.loop-i-preserved
-loop-i-preserved c =
-    let v = c.loop-i.invariant in
-    record {
-      live = rw (v.live, as-bit c.is_live.result, c.is_live.ensures) (sym (count-one (live_at c.args.alive.now) c.loop-i.i));
-      entries = rw (v.entries, as-bit c.has_entry.result, c.has_entry.ensures) (sym (count-one (entry_at c.args.keyed.now c.args.alive.now) c.loop-i.i));
-    }
+pub overflow_add-result-2 : goal.overflow_add-result-2
+overflow_add-result-2 c =
+    let keyed = c.args.keyed.now in
+    let marks = marks_in c.args.alive.now in
+    let counts =
+    counts-last marks keyed c.min-slots.result c.word_at.result c.word_at.ensures c.count_words-first.result c.first_bits-word.result c.word_entries.result _
+    c.count_words-first.ensures c.first_bits-word.ensures c.first_bits-word.type_inv c.keyed_of_word.ensures c.word_entries.ensures in
+    omega (arith, (few-counts keyed marks c.min-slots.result _ counts).1)
 
 pub returns : goal.returns
-unfolding counts_of
 returns c =
-    let a = c.args in
-    let v = c.loop-i.invariant in
-    let e : c.loop-i.i ≡ min a.n (length a.alive.now) = omega arith in
-    (λ j. record { live = v.live j; keyed = v.entries j }) ∙ ap (counts_of a.keyed.now a.alive.now) e ∙ counts-there a.keyed.now a.alive.now a.n
+    let keyed = c.args.keyed.now in
+    let marks = marks_in c.args.alive.now in
+    let n = c.min-slots.result in
+    let e : n ≡ min c.args.n (length marks) = omega (arith, length-marks c.args.alive.now) in
+    counts-last marks keyed n c.word_at.result c.word_at.ensures c.count_words-first.result c.first_bits-word.result c.word_entries.result _
+    c.count_words-first.ensures c.first_bits-word.ensures c.first_bits-word.type_inv c.keyed_of_word.ensures c.word_entries.ensures
+    ∙ ap (counts_of keyed marks) e ∙ counts-there keyed marks c.args.n

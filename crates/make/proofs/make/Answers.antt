@@ -1,17 +1,17 @@
-use Rattle.std.proofs.Common.{rules, tests}
-use mathlib.Core.Path.{sym, ◌∙◌}
-use Rattle.make.proofs.Making.{make-4, make-13, make-accepted, fresh-made, fresh-room}
+use Rattle.std.proofs.Common.{rules, arith, ◌≡◌, Err, sym, ◌∙◌}
+use Rattle.refusal.proofs.Numbers.{above_0}
+use Rattle.index.specs.Lent.{contents_mut}
+use Rattle.marks.proofs.Words.{first-none}
+use Rattle.make.proofs.Making.{make-accepted, make-refused, unmarked-are}
 use Rattle.make.proofs.make.Goals as goal
 
-pub returns-then-not-contains : goal.returns-then-not-contains
-returns-then-not-contains c = sym (make-4 _ _ (search (rules, tests)))
+pub returns-in_err-check-clause-answers : goal.returns-in_err-check-clause-answers
+returns-in_err-check-clause-answers c =
+    let r = c.in_err-check.field-0.0 in
+    let k : c.from_residual.result ≡ Err r = search rules in
+    rw k (make-refused _ _ _ (rw c.view.ensures at c.in_err-check.ensures) (λ z. omega (arith, above_0 r, z)))
 
-pub returns-then-capacity-eq0 : goal.returns-then-capacity-eq0
-returns-then-capacity-eq0 c =
-    let room = fresh-room _ _ _ _ _ c.default_bits.ensures _ _ c.capacity.ensures in
-    sym (make-13 _ _ (search (rules, tests)) (sym room ∙ c.if-capacity-eq0.true))
-
-pub returns : goal.returns
-returns c =
-    let room = fresh-room _ _ _ _ _ c.default_bits.ensures _ _ c.capacity.ensures in
-    fresh-made _ _ _ _ _ c.default_bits.ensures _ ∙ sym (make-accepted _ _ (search (rules, tests)) (λ z. c.if-capacity-eq0.false (room ∙ z)))
+pub returns-clause-answers : goal.returns-clause-answers
+returns-clause-answers c =
+    let a = contents_mut c.args.arrays.now in
+    make-accepted _ a _ _ (sym (rw c.view.ensures at c.in_ok-check.ensures)) c.fresh.ensures (unmarked-are a _ (c.mark_live.ensures ∙ first-none a.alive))

@@ -1,24 +1,17 @@
-use mathlib.Core.Path.{◌≡◌, refl, sym}
-use mathlib.Core.List.{List, ◌++◌}
-use Prim.Native.Nat.{ℕ, zero, suc, min}
-use native.Mathlib.Numerals.{add-one}
+use mathlib.Core.Path.{ap, ◌∙◌}
 use native.Mathlib.Omega.{arith}
-use lib.ListN.{length, length-take, take, drop, replicate}
-use Rattle.std.proofs.lemmas.List.{replicate_more}
-use Rattle.lists.specs.Lists.{tab, over}
-use Rattle.lists.proofs.Laws.{length-tab}
+use Rattle.lists.proofs.Writing.{written_none, written-more, written-whole}
+use Rattle.marks.specs.Live.{marks_in}
+use Rattle.marks.specs.Word.{first_word}
+use Rattle.marks.proofs.Words.{marks-first}
 use Rattle.marks.proofs.mark_live.Goals as goal
 
-ones : (n : ℕ) → replicate {A = ℕ} n 1 ≡ tab (λ _. 1) n
-ones zero = refl
-ones (suc n) = rw (← ones n) (sym (rw (add-one n) at (replicate_more {X = ℕ} n 1)))
+pub loop-i-init : goal.loop-i-init
+loop-i-init c = written_none _ _ _ (omega arith)
 
-front : (n : ℕ) (xs : List ℕ) → replicate {A = ℕ} (length (take (min n (length xs)) xs)) 1 ++ drop (min n (length xs)) xs ≡ over (tab (λ _. 1) (min n (length xs))) xs
-unfolding over
-front n xs =
-    let m = min n (length xs) in
-    let whole : min m (length xs) ≡ m = omega arith in
-    rw (length-take, whole, ones m, length-tab {A = ℕ} (λ _. 1) m)
+pub loop-i-preserved : goal.loop-i-preserved
+loop-i-preserved c = rw c.word_of_first.ensures (written-more _ _ _ (omega arith) c.loop-i.invariant c.loop-i-test.true)
 
 pub returns : goal.returns
-returns c = let filled = c.fill.ensures.after (λ y w. w) in cc (front c.args.n c.args.alive.now)
+returns c =
+    ap marks_in (written-whole (first_word c.args.n) c.args.alive.now c.loop-i.invariant c.loop-i-test.false) ∙ marks-first c.args.n c.args.alive.now

@@ -7,7 +7,8 @@ use Rattle.words.proofs.Exports.{read_short, read_done}
 use Rattle.read_exports.proofs.vecq_raw_from_bytes.Goals as goal
 
 pub returns-then-fields-lt-RECORD_WORDS : goal.returns-then-fields-lt-RECORD_WORDS
-returns-then-fields-lt-RECORD_WORDS c = read_short _ _ _ c.if-fields-lt-RECORD_WORDS.true c.without_place.result (rw c.view.ensures at c.without_place.ensures)
+returns-then-fields-lt-RECORD_WORDS c =
+    read_short _ _ _ c.if-fields-lt-RECORD_WORDS.true c.without_place.result (rw (c.check.ensures, c.view.ensures) at c.without_place.ensures)
 
 -- the caller's arrays hold what the lent ones do at the end of the call
 pub returns : goal.returns

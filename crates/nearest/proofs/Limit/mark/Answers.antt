@@ -1,20 +1,31 @@
-use mathlib.Core.Path.{sym}
+use mathlib.Core.Path.{ap, ◌∙◌}
+use Prim.Native.Nat.{◌*◌, min}
 use native.Mathlib.Omega.{arith}
-use lib.Dec.{eqb}
-use lib.ListN.{get_or}
-use Rattle.lists.proofs.Writing.{written_none}
-use Rattle.lists.proofs.Bits.{one_at_most}
-use Rattle.nearest.proofs.Counting.{level-none, level-few, marking-more}
+use lib.ListN.{length}
+use Rattle.marks.proofs.Words.{length-marks}
+use Rattle.nearest.specs.Limit.{level}
+use Rattle.nearest.proofs.Marking.{marks-none, marks-more, marks_all}
 use Rattle.nearest.proofs.Limit.mark.Goals as goal
 
-pub loop-slot-init : goal.loop-slot-init
-loop-slot-init c = record { written = written_none _ _ _ c.requires; ties-seen = sym (level-none _ _) }
+pub loop-i-init : goal.loop-i-init
+loop-i-init c = marks-none _ _ _ _ c.requires.none
 
-pub overflow_add-seen : goal.overflow_add-seen
-overflow_add-seen c =
-    let m = c.loop-slot in
-    let few = level-few c.args.distances.now c.args.self.distance m.slot in
-    omega (arith, m.invariant.ties-seen, few, one_at_most (eqb (get_or c.args.distances.now m.slot 0) c.args.self.distance), c.loop-slot-test.true)
+pub mark_group-group-requires : goal.mark_group-group-requires
+mark_group-group-requires c =
+    let at = c.loop-i in
+    let xs = c.args.distances.now in (
+      omega arith,
+      omega arith,
+      omega arith,
+      at.invariant.ties-seen ∙ ap (level xs c.args.self.distance) {x = min (at.i * 64) (length xs)} {y = at.i * 64} (omega arith),
+    )
 
-pub loop-slot-preserved : goal.loop-slot-preserved
-loop-slot-preserved c = marking-more c.loop-slot.invariant c.requires c.loop-slot-test.true _ c.is_marked.ensures
+pub bounds-marks-i : goal.bounds-marks-i
+bounds-marks-i c = omega (arith, c.loop-i.invariant.same, length-marks c.args.marks.now, c.requires.room)
+
+pub loop-i-preserved : goal.loop-i-preserved
+loop-i-preserved c =
+    marks-more _ _ _ _ c.requires.room c.requires.none c.loop-i.invariant (omega arith) _ _ _ (omega arith) c.mark_group-group.ensures.word c.mark_group-group.ensures.seen
+
+pub returns : goal.returns
+returns c = marks_all _ _ _ _ c.requires.room c.requires.none c.loop-i.invariant (omega arith)

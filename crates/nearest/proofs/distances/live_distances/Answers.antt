@@ -6,6 +6,7 @@ use lib.ListN.{length, length-replicate, replicate}
 use Prim.Native.Nat.{ℕ}
 use Rattle.lloyd.specs.Tables.{boundaries_of}
 use Rattle.unit.specs.Brought.{query_of}
+use Rattle.marks.specs.Live.{marks_in}
 use Rattle.index.specs.State.{header_of}
 use Rattle.unit.proofs.Rotatable.{rotatable-of}
 use Rattle.nearest.proofs.Distance.{own-table, few-own, tops-low, slots-measured}
@@ -37,4 +38,4 @@ returns c =
     let room : length zeros ≡ 4096 = length-replicate 4096 (of_bits binary32 0) in
     c.write_distances.ensures ∙
     slots-measured (header_of c.args.index) (query_of c.args.query.now) zeros _ _ (rw room c.requires.2) c.prepare-rnorm.ensures _ (table ∙ ap boundaries_of (sym c.requires.1)) _
-    c.padded_dim-lanes.ensures _ _ c.write_tops.ensures c.args.codes.now c.args.alive.now _ c.requires.1 c.bytes_per_vector-size.ensures c.args.index.n c.args.distances.now
+    c.padded_dim-lanes.ensures _ _ c.write_tops.ensures c.args.codes.now (marks_in c.args.alive.now) _ c.requires.1 c.bytes_per_vector-size.ensures c.args.index.n c.args.distances.now

@@ -21,6 +21,5 @@ returns c =
       most = c.if-self-gt4096.false;
       block = c.if-self-bytes_per_vector.false ∙ c.bytes_per_vector.ensures ∙ at_width_lem _ (record { some = omega arith; most = omega arith });
       codes-there = (le-div_iff_mul-le {k = s.size} {x = s.n} (omega arith)).0 c.if-self-2.false;
-      scales-there = c.if-self-3.false;
-      marks-there = leb-true _ _ e;
+      scales-there = leb-true _ _ e;
     }

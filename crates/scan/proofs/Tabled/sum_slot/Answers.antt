@@ -1,8 +1,6 @@
-use native.Mathlib.Omega.{arith}
-use mathlib.Core.Path.{ap, ◌∙◌}
+use mathlib.Core.Path.{sym, ap, ◌∙◌}
 use mathlib.Core.List.{List}
-use borrow.Author.Tests.{lt-ltb}
-use lib.ListN.{get_or}
+use Prim.Native.Nat.{◌*◌}
 use lib.Seq.{sets}
 use lib.Ieee.{Float}
 use Rattle.scan.specs.Groups.{byte_lanes}
@@ -16,7 +14,7 @@ byte_lanes-requires c =
 pub returns : goal.returns
 returns c =
     let t = c.args.self.now in
-    rw (lt-ltb 0 (get_or t.of.marks.now c.args.slot 0) (omega arith))
+    rw (sym (c.requires.lives.each _ c.requires.arrays.1) ∙ sym c.is_set.ensures ∙ c.if-not-is_set.false)
     (c.put.ensures
-    ∙ ap (λ (a : List Float). sets c.args.sums.now c.args.at a)
+    ∙ ap (λ (a : List Float). sets c.args.sums.now (c.args.k * 8) a)
     (c.byte_lanes.ensures ∙ ap (byte_lanes t.evens.now t.odds.now t.pairs.now) c.block.ensures.codes))

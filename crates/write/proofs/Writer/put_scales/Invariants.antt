@@ -1,6 +1,7 @@
 use Rattle.write.specs.Put.{Put}
 use Rattle.write.specs.Pieces.{in_order, scale_piece}
+use Rattle.marks.specs.Live.{marks_in}
 use Rattle.write.proofs.Writer.put_scales.Given as goal
 
 abbrev pub invariant-loop-i : goal.invariant-loop-i
-invariant-loop-i l = Put (in_order (scale_piece l.scales l.alive) l.i) l.initial.self l.self
+invariant-loop-i l = Put (in_order (scale_piece l.scales (marks_in l.alive)) l.i) l.initial.self l.self

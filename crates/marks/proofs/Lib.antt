@@ -1,0 +1,2 @@
+-- Laws of marks in words.
+pub mod Words
