@@ -57,12 +57,12 @@ live_more ws i l =
     ∙ ap (λ (z : ℕ). live_marks (marks_in ws) (i * 64) + z)
     (ap (count is_one) (tab-ext (λ j. mark (i * 64 + j)) (bit_of (get_or ws i 0)) 64 (λ j k. mark-at ws i j k)) ∙ sym (ones-bits (get_or ws i 0) 64 l))
 
--- that number is the number of live slots
+-- `live_marks` is the number of live slots
 pub live-count : (ws : List ℕ) (n : ℕ) → live_marks (marks_in ws) n ≡ count (live_at (marks_in ws)) (below n)
 live-count ws n =
     count-tab is_one (live_at (marks_in ws)) (λ i. get_or (marks_in ws) i 0) (λ i. i) n (λ i. one-live (get_or (marks_in ws) i 0) (lent-low ws i))
 
--- and the count of ones over the words
+-- of whole words it is the count of their ones
 pub live-is-ones : (ws : List ℕ) → ((i : ℕ) → get_or ws i 0 < 2 ^ 64) → (n : ℕ) → live_marks (marks_in ws) (n * 64) ≡ total (tab (λ i. ones (get_or ws i 0)) n)
 live-is-ones ws l zero = refl
 live-is-ones ws l (suc n) =

@@ -1,4 +1,4 @@
--- The front of a list and its rest: what stands where after `over`, and what a list is by its entries.
+-- The front of a list and its rest: what stands where after `over`, what a list is by its entries, and how many of the first n pass.
 use mathlib.Core.Path.{◌≡◌, refl, sym, ap, ◌∙◌}
 use mathlib.Core.Bool.{Bool, true, false}
 use mathlib.Core.Logic.{⊎_elim}
@@ -78,10 +78,6 @@ module _ {ℓ} {A : Type ℓ} where
   pub splice-one : (i : ℕ) (y : A) (xs : List A) → i < length xs → splice i (y ∷ []) xs ≡ set xs i y
   unfolding splice
   splice-one i y xs h = sym (sets-eq (y ∷ []) xs i (omega arith))
-
-  pub length-splice : (i : ℕ) (ys xs : List A) → i + length ys ≤ length xs → length (splice i ys xs) ≡ length xs
-  unfolding splice
-  length-splice i ys xs h = ap length (sym (sets-eq ys xs i h)) ∙ length-sets xs i ys
 
   -- more at the front: the places after what was written first
   pub over-append : (ys zs xs : List A) → over (ys ++ zs) xs ≡ splice (length ys) zs (over ys xs)

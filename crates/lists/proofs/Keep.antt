@@ -44,9 +44,6 @@ module _ {X : Type 0} where
   each_take P (suc n) [] h = tt
   each_take P (suc n) (x ∷ xs) h = (h.0, each_take P n xs h.1)
 
-  pub each_next : (P : X → Type 0) (i : ℕ) (xs : List X) (d : X) → i < length xs → Each P (take i xs) → P (get_or xs i d) → Each P (take (i + 1) xs)
-  each_next P i xs d h k l = rw (add-one i, take-suc xs i d h) (each_append P (take i xs) (get_or xs i d ∷ []) k (l, tt))
-
   pub each-drop : (P : X → Type 0) (n : ℕ) (xs : List X) → Each P xs → Each P (drop n xs)
   each-drop P zero xs h = h
   each-drop P (suc n) [] h = tt

@@ -1,4 +1,4 @@
--- Laws of `tab`, `zip_with` and `over`, and of `get_or` at two defaults.
+-- Laws of `tab`, `zip_with`, `over` and `total`, of `get_or` at two defaults, and of zeros.
 use mathlib.Core.Path.{◌≡◌, refl, sym, ap, ◌∙◌}
 use mathlib.Core.Logic.{◌⊎◌, inl, inr}
 use mathlib.Core.List.{List, [], ◌∷◌, ◌++◌, append-nil, append_assoc}

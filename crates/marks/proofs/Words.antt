@@ -104,13 +104,13 @@ spread-live w j =
     times (suc zero) k l = ap (ltb 0) (one-mul (2 ^ k)) ∙ lt-ltb 0 (2 ^ k) (pow_pos k)
     times (suc (suc b)) k l = absurd (omega arith)
 
--- the bytes of one bit more
 pub mask-is : (j : ℕ) → 1 * 2 ^ (j % 8) % 256 ≡ 2 ^ (j % 8)
 mask-is j = rw (one-mul (2 ^ (j % 8))) (mod-eq_of_lt (pow-lt {j = 8} (omega arith)))
 
 abbrev pub Spread_below : (w j : ℕ) → List ℕ → Type 0
 Spread_below w j bytes = (k : ℕ) → k < j → get_or bytes k 0 ≡ spread_at w k
 
+-- the bytes of one bit more
 pub spread-more : (w j : ℕ) (bytes : List ℕ) → length bytes ≡ 64 → j < 64 → Spread_below w j bytes
     → (length (set bytes j (spread_at w j)) ≡ 64) × Spread_below w (j + 1) (set bytes j (spread_at w j))
 spread-more w j bytes e l s = (
@@ -159,9 +159,6 @@ bit-ones m j =
 
 -- ---- one bit of a word changed
 
-pub set_same : (w j : ℕ) → BitSet w j (bit_of w j) w
-set_same w j = record { here = refl; others = λ k e. refl }
-
 module _ (w j : ℕ) where
   small : w % 2 ^ j < 2 ^ j
   small = mod-lt w (pow_pos j)
@@ -185,12 +182,7 @@ module _ (w j : ℕ) where
         others = λ k apart. ap (λ (z : ℕ). bit_of z k) less ∙ bit-others j (h - 1) h (w % 2 ^ j) small (omega arith) k apart ∙ ap (λ (z : ℕ). bit_of z k) (split w j);
       }
 
-  -- the difference is there, and the sum fits
-  pub one_below : bit_of w j ≡ 1 → 2 ^ j ≤ w
-  one_below e =
-      let h : ℕ = w / 2 ^ j in
-      omega (arith, split w j, suc-mul (h - 1) (2 ^ j), ap (λ (z : ℕ). z * 2 ^ j) {x = suc (h - 1)} {y = h} (omega arith))
-
+  -- the sum fits
   pub one_more : (k : ℕ) → j < k → w < 2 ^ k → bit_of w j ≡ 0 → w + 2 ^ j < 2 ^ k
   one_more k l s e =
       let h : ℕ = w / 2 ^ j in
