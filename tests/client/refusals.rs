@@ -341,17 +341,38 @@ fn files() {
         read(&format!("{count} slots that aren't there"), number, &short);
     }
     versions(&file);
+    version_1();
 }
 
 /// What the head states, where it is sound.
 fn versions(file: &[u8]) {
-    for version in [1, 257, 258, 259, 260, 261] {
+    for version in [257, 258, 259, 260, 261] {
         let stated = Stated::new(version, 4, 4, 0).bytes(&mut Random::new(1));
         same::equal("a version", Index::version(&stated), Ok(version));
         accepted("a version is read", Index::from_bytes(&stated, 0).map(drop));
     }
     turned_down("the version of a cut head", 14, Index::version(&file[..23]));
     turned_down("an unknown version", 16, Index::version(&Stated::new(258 + 4, 4, 4, 0).bytes(&mut Random::new(1))));
+}
+
+/// Document 02, Req 07: version 1 is an unknown one, so 14 of a head that is cut and 15 come before 16, and nothing after it. One slot, its scale 1 in four bytes, its code 7.
+fn version_1() {
+    let whole = [&b"VECQ\x01\0\0\0\x01\0\0\0"[..], &1u64.to_le_bytes(), &1u32.to_le_bytes(), &1f32.to_le_bytes(), &[7]].concat();
+    let with = |at: usize, bytes: &[u8]| [&whole[..at], bytes, &whole[at + bytes.len()..]].concat();
+    let both = |what: &str, number: u8, file: &[u8]| {
+        turned_down(&format!("version 1: {what}"), number, Index::from_bytes(file, 0).map(drop));
+        turned_down(&format!("version 1, its head: {what}"), number, Index::version(file));
+    };
+    for length in 0..=whole.len() {
+        both(&format!("{length} bytes"), if length < 24 { 14 } else { 16 }, &whole[..length]);
+    }
+    both("bytes behind the end", 16, &[&whole[..], &[1, 2]].concat());
+    both("no slot", 16, &with(20, &[0; 4])[..24]);
+    both("VECR", 15, &with(0, b"VECR"));
+    both("working_dim 2 over dim 1", 16, &with(6, &[2]));
+    both("dim 0", 16, &with(8, &[0]));
+    both("dim 4,097", 16, &with(8, &[1, 0x10]));
+    both("65,537 slots", 16, &with(20, &[1, 0, 1]));
 }
 
 /// Each number that a call may give has words of its own, behind `refused N: `.

@@ -8,7 +8,8 @@ import sys
 
 from expected import listing
 
-VERSIONS = (1, 257, 258, 259, 260, 261)
+# those that are read
+VERSIONS = (257, 258, 259, 260, 261)
 
 
 def block_size(working, width):
@@ -23,7 +24,7 @@ def table(entries):
 
 
 def make(version, dim=1, working=0, width=4, scales=(), entries=(), count=None, magic=b"VECQ"):
-    """A file in the form that its version has, the scales as patterns. `count` states another number of slots than there are scales."""
+    """A file in the form that its version has, the scales as patterns, those of version 1 as binary32. `count` states another number of slots than there are scales."""
     n = len(scales)
     head = magic + struct.pack("<HHIQI", version, working, dim, 0x0123456789ABCDEF, n if count is None else count)
     if version == 261:
@@ -44,19 +45,13 @@ def given():
 
     # ---- a version of each kind
     halves = (0x3B9A, 0x7D01, 0xFE05, 0x0001, 0x8000, 0x7C00, 0xFC00, 0x7FFF, 0x03FF, 0xFFFF)
-    patterns = (0x3F800000, 0x477FE000, 0x477FEFFF, 0x477FF000, 0x33000000, 0x33000001, 0x33800000, 0x387FDFFF, 0x387FE000, 0x38800000,
-                0x80000000, 0x7F800000, 0xFF800000, 0x7F800001, 0xFFC00000, 0xFFFFFFFF, 0x3F801000, 0x3F803000, 0x00000001, 0xC7FFFFFF)
-    rounded = ("3C00", "7BFF", "7BFF", "7C00", "0000", "0001", "0001", "03FF", "0400", "0400",
-               "8000", "7C00", "FC00", "7E00", "FE00", "FE00", "3C00", "3C02", "0000", "FC00")
-    lines = "".join(f"{i} - {h}\n" for i, h in enumerate(rounded))
-    yield "version 1, scales rounded", make(1, 3, scales=patterns), f"1 3 3 4 {len(patterns)}\n{lines}"
     lines = "".join(f"{i} - {h:04X}\n" for i, h in enumerate(halves))
-    for version in (257, 258, 259, 260, 261):
+    for version in VERSIONS:
         yield f"version {version}, halves as they stand", make(version, 5, scales=halves), f"{version} 5 5 4 {len(halves)}\n{lines}"
     for version in VERSIONS:
         yield f"version {version}, no slot", make(version, 4096), f"{version} 4096 4096 4 0\n"
-        field = 5 if version in (1, 257) else 3
-        yield f"version {version}, working_dim 3", make(version, 5, 3, scales=halves[:2]), f"{version} 5 {field} 4 2\n" + ("0 - 0000\n1 - 0000\n" if version == 1 else lines[:18])
+        field = 5 if version == 257 else 3
+        yield f"version {version}, working_dim 3", make(version, 5, 3, scales=halves[:2]), f"{version} 5 {field} 4 2\n" + lines[:18]
         yield f"version {version}, bytes after the end", make(version, 2, scales=one) + b"\xde\xad", None
     for width in (4, 5, 6):
         yield f"width {width}", make(261, 7, width=width, scales=halves), f"261 7 7 {width} {len(halves)}\n{lines}"
@@ -71,9 +66,10 @@ def given():
     yield "another name, 23 bytes", make(261, scales=one, magic=b"VECX")[:23], 14
     yield "another name", make(261, scales=one, magic=b"VECX"), 15
     yield "another name and version", make(2, scales=one, magic=b"vecq"), 15
-    for version in (0, 2, 256, 262, 265, 65535):
+    for version in (0, 1, 2, 256, 262, 265, 65535):
         yield f"version {version}", make(version, scales=one), 16
     yield "another version, working_dim over dim", make(262, 1, 2, scales=one), 16
+    yield from version_1()
     for version in (258, 259, 260, 261):
         yield f"version {version}, working_dim over dim", make(version, 1, 2, scales=one), 17
     yield "working_dim over dim, no width byte", make(261, 1, 2, scales=one)[:24], 17
@@ -119,7 +115,7 @@ def given():
     yield "a residual past its room", make(260, 4096, scales=one * 17), 20
     for version in VERSIONS:
         short = make(version, 3, scales=one)
-        yield f"version {version}, 65,536 bytes", short.ljust(65536, b"\0"), f"{version} 3 3 4 1\n0 - {'0000' if version == 1 else '3B9A'}\n"
+        yield f"version {version}, 65,536 bytes", short.ljust(65536, b"\0"), f"{version} 3 3 4 1\n0 - 3B9A\n"
         yield f"version {version}, 65,537 bytes", short.ljust(65537, b"\0"), 20
         yield f"version {version}, 200,000 bytes", short.ljust(200000, b"\0"), 20
         yield f"version {version}, 65,537 bytes, dim 0", make(version, 0, scales=one).ljust(65537, b"\0"), 20
@@ -129,11 +125,32 @@ def given():
     yield "65,537 bytes, width 7", make(261, width=7).ljust(65537, b"\0"), 18
 
 
+def version_1():
+    """Document 02, Req 07: version 1 is unknown, so what follows 16 doesn't come of it. These are whole files, and such as would be 14, 17 or 20 of another version."""
+    patterns = (0x3F800000, 0x477FE000, 0x477FEFFF, 0x477FF000, 0x33000001, 0x33800000, 0x387FE000, 0x80000000, 0x7F800000, 0x7F800001, 0xFFC00000, 0x3F801000)
+    yield "version 1, scales of every kind", make(1, 3, scales=patterns), 16
+    yield "version 1, no slot", make(1, 4096), 16
+    yield "version 1, working_dim 3", make(1, 5, 3, scales=patterns[:2]), 16
+    yield "version 1, 1,024 slots", make(1, scales=(0,) * 1024), 16
+    whole = make(1, 2, scales=patterns[:2])
+    for size in range(len(whole)):
+        yield f"version 1, {size} bytes", whole[:size], 14 if size < 24 else 16
+    yield "version 1, bytes after the end", whole + b"\xde\xad", 16
+    yield "version 1, another name", make(1, 2, scales=patterns[:2], magic=b"VECR"), 15
+    yield "version 1, working_dim over dim", make(1, 1, 2, scales=patterns[:1]), 16
+    yield "version 1, dim 0", make(1, 0, scales=patterns[:1]), 16
+    yield "version 1, dim 4,097", make(1, 4097), 16
+    yield "version 1, 1,025 slots", make(1, scales=(0,) * 1025), 16
+    yield "version 1, 65,537 slots", make(1, count=65537), 16
+    for size in (65536, 65537, 200000):
+        yield f"version 1, {size:,} bytes", whole.ljust(size, b"\0"), 16
+
+
 def drawn(count):
-    """Files of all versions with a mistake in some: a field changed, the end cut off, a byte changed."""
+    """Files of all versions, seldom of version 1, with a mistake in some: a field changed, the end cut off, a byte changed."""
     draw = random.Random(1)
     for i in range(count):
-        version = draw.choice(VERSIONS)
+        version = draw.choice((*VERSIONS, *VERSIONS, 1))
         n = draw.choice((0, 1, 2, 3, 7, 40))
         dim = draw.choice((1, 2, 3, 5, 8, 33))
         working = draw.choice((0, 0, 1, dim, draw.randrange(dim + 2)))

@@ -1,5 +1,5 @@
 #!/usr/bin/env python3
-"""expected.py <FILE: what the listing of a file is by document 01, worked out by Python's struct (its format e rounds to a half, ties to even)."""
+"""expected.py <FILE: what the listing of a file is by documents 01 and 02, worked out by Python's struct."""
 import struct
 import sys
 
@@ -11,9 +11,9 @@ def listing(b):
     if b[:4] != b"VECQ":
         return "15\n"
     version, field, dim, seed, n = struct.unpack_from("<HHIQI", b, 4)
-    if version not in (1, 257, 258, 259, 260, 261):
+    if version not in (257, 258, 259, 260, 261):
         return "16\n"
-    if version in (1, 257):
+    if version == 257:
         field = 0
     if field > dim:
         return "17\n"
@@ -30,15 +30,14 @@ def listing(b):
     block = -(-padded * width // 8)
     if dim > 4096 or n > 1024 or n * block > 32768 or long:
         return "20\n"
-    size = 4 if version == 1 else 2
     scales = at
-    at += n * (size + block)
+    at += n * (2 + block)
     if len(b) < at:
         return "14\n"
     if dim == 0:
         return "17\n"
     if version == 260:
-        at += n * (size + block)
+        at += n * (2 + block)
     if len(b) < at:
         return "14\n"
     keys = {}
@@ -53,22 +52,9 @@ def listing(b):
                 return "19\n"
             keys[slot] = key
     out = f"{version} {dim} {working} {width} {n}\n"
-    for i in range(n):
-        out += f"{i} {keys.get(i, '-')} {half(b, scales + i * size, version):04X}\n"
+    for i, half in enumerate(struct.unpack_from(f"<{n}H", b, scales)):
+        out += f"{i} {keys.get(i, '-')} {half:04X}\n"
     return out
-
-
-def half(b, at, version):
-    if version != 1:
-        return struct.unpack_from("<H", b, at)[0]
-    (pattern,) = struct.unpack_from("<I", b, at)
-    sign, rest = pattern >> 31, pattern & 0x7FFFFFFF
-    if rest > 0x7F800000:
-        return sign << 15 | 0x7E00
-    try:
-        return struct.unpack("<H", struct.pack("<e", struct.unpack("<f", struct.pack("<I", pattern))[0]))[0]
-    except OverflowError:
-        return sign << 15 | 0x7C00
 
 
 if __name__ == "__main__":

@@ -32,6 +32,8 @@ pub enum Reason {
     MinusZero,
     /// padded size 1 at 4 bits, where the Rust panics (document 02, Req 05)
     OneTrait,
+    /// bytes 4 and 5 of a file state version 1, which the Rust reads (document 02, Req 07)
+    VersionOne,
     /// `set` or `field` led where no call of the Rust does
     Poked,
 }
@@ -47,6 +49,7 @@ impl fmt::Display for Reason {
             Reason::SubnormalHalf => write!(f, "ours, subnormal half"),
             Reason::MinusZero => write!(f, "a score is -0"),
             Reason::OneTrait => write!(f, "one trait at 4 bits"),
+            Reason::VersionOne => write!(f, "version 1"),
             Reason::Poked => write!(f, "set by hand"),
         }
     }
@@ -226,6 +229,9 @@ impl Driver {
     }
 
     fn read(&mut self, file: &[u8]) -> Answer {
+        if file.get(4..6) == Some(&[1, 0]) {
+            return refused(Reason::VersionOne, version_one(file));
+        }
         if self.too_large(file) {
             return lacks(20);
         }
@@ -256,7 +262,7 @@ impl Driver {
         let short = |at: usize| u16::from_le_bytes([file[at], file[at + 1]]);
         let (version, dim, count) = (short(4), long(8), long(20));
         let working = match version {
-            1 | 257 => dim,
+            257 => dim,
             258..=261 if short(6) == 0 => dim,
             258..=261 if short(6) as usize <= dim => short(6) as usize,
             _ => return false,
@@ -529,6 +535,15 @@ fn keyed_list(index: &VecqIndex, query: &[f32], k: usize) -> Vec<(u64, f32)> {
     pairs
 }
 
+/// "The reader now gives 16 for version 1, at 16's place": behind 14 and 15.
+fn version_one(file: &[u8]) -> u8 {
+    match file {
+        _ if file.len() < 24 => 14,
+        _ if !file.starts_with(b"VECQ") => 15,
+        _ => 16,
+    }
+}
+
 fn number_of(error: &Error) -> u8 {
     match error {
         Error::Truncated => 14,
@@ -544,9 +559,6 @@ fn number_of(error: &Error) -> u8 {
 /// Subnormal halves take their IEEE value (ours); whether there is one.
 fn repair_scales(index: &mut VecqIndex, file: &[u8]) -> bool {
     let version = u16::from_le_bytes([file[4], file[5]]);
-    if version == 1 {
-        return false;
-    }
     let start = if version == 261 { 25 } else { 24 };
     let second = start + index.n * (2 + index.bytes_per_vector());
     let half = |at: usize| u16::from_le_bytes([file[at], file[at + 1]]);

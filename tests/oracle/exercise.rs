@@ -113,6 +113,7 @@ pub fn list() -> List {
     readings(&mut fixed);
     cuts_and_damage(&mut fixed);
     reading_refusals(&mut fixed);
+    version_one(&mut fixed);
     order(&mut fixed);
     making_misfits(&mut fixed);
     short_arrays(&mut fixed);
@@ -1193,7 +1194,7 @@ fn one_trait_slots(f: &mut Fixed) {
 fn one_trait_file(version: u16, dim: u32, working: u16, bytes: [u8; 6], bytes2: [u8; 6]) -> Vec<u8> {
     let stated = File { working, ..File::new(version, dim, 4, 6, &[(0, 7), (1, 8), (2, 7), (4, 9)]) };
     let mut file = stated.bytes();
-    let codes = if version == 261 { 25 } else { 24 } + 6 * if version == 1 { 4 } else { 2 };
+    let codes = if version == 261 { 25 } else { 24 } + 6 * 2;
     file[codes..codes + 6].copy_from_slice(&bytes);
     if version == 260 {
         file[codes + 18..codes + 24].copy_from_slice(&bytes2);
@@ -1219,7 +1220,7 @@ fn one_trait_questions(f: &mut Fixed) -> Vec<String> {
 fn one_trait_files(f: &mut Fixed) {
     f.section("games with one trait: files whose high four bits are set, scored, searched, overwritten, compacted, written");
     let (bytes, bytes2) = ([0xf3, 0x1b, 0xe4, 0x0c, 0x97, 0x80], [0x34, 0xf3, 0x0f, 0xc8, 0x21, 0xd6]);
-    for (version, dim, working) in [(1, 1, 0), (257, 1, 0), (258, 3, 1), (259, 1, 0), (259, 2, 1), (260, 1, 0), (260, 17, 1), (261, 17, 1)] {
+    for (version, dim, working) in [(257, 1, 0), (258, 3, 1), (259, 1, 0), (259, 2, 1), (260, 1, 0), (260, 17, 1), (261, 17, 1)] {
         f.label(&format!("version {version}, dim {dim}, working_dim field {working}: the high four bits clear, then set, and the same answers"));
         f.lend(7, 1);
         let low = |bytes: [u8; 6]| bytes.map(|byte| byte & 0xf);
@@ -1380,7 +1381,7 @@ impl File {
     }
 
     fn block(&self) -> usize {
-        let ignored = matches!(self.version, 1 | 257) || self.working == 0;
+        let ignored = self.version == 257 || self.working == 0;
         block_size(if ignored { self.dim as usize } else { self.working as usize }, self.width)
     }
 
@@ -1397,11 +1398,7 @@ impl File {
         }
         for _ in 0..if self.version == 260 { 2 } else { 1 } {
             for slot in 0..self.count {
-                if self.version == 1 {
-                    file.extend((0.5 + slot as f32 / 3.0).to_le_bytes());
-                } else {
-                    file.extend((0x3800 + 0x123 * slot as u16 % 0x4000).to_le_bytes());
-                }
+                file.extend((0x3800 + 0x123 * slot as u16 % 0x4000).to_le_bytes());
             }
             file.extend((0..self.count * self.block()).map(|_| random.word() as u8));
         }
@@ -1420,12 +1417,12 @@ fn read(f: &mut Fixed, file: &[u8]) -> String {
     f.either(format!("read {}", bytes(file)))
 }
 
-/// Each version, the widths of 261, with a working_dim below dim where the version has it.
+/// Each version that is read, the widths of 261, with a working_dim below dim where the version has it.
 fn versions(dim: u32, count: usize, keys: &[(u32, u64)]) -> Vec<File> {
-    let mut files: Vec<File> = [(1, 4), (257, 4), (258, 4), (259, 4), (260, 4), (261, 4), (261, 5), (261, 6)]
+    let mut files: Vec<File> = [(257, 4), (258, 4), (259, 4), (260, 4), (261, 4), (261, 5), (261, 6)]
         .map(|(version, width)| File::new(version, dim, width, count, keys))
         .into();
-    files.extend([1, 257, 258, 260].map(|version| File { working: dim as u16 - 1, ..File::new(version, dim, 4, count, keys) }));
+    files.extend([257, 258, 260].map(|version| File { working: dim as u16 - 1, ..File::new(version, dim, 4, count, keys) }));
     files
 }
 
@@ -1473,12 +1470,6 @@ fn readings(f: &mut Fixed) {
         read(f, &file);
         f.asks(&["dump", "write 100"]);
     }
-    let mut file = File::new(1, 1, 4, 1, &[]).bytes();
-    for scale in [0u32, 0x8000_0000, 1, 0x7f80_0000, 0x7f80_0001, 0xffff_ffff, 0x3f80_0000] {
-        file[24..28].copy_from_slice(&scale.to_le_bytes());
-        read(f, &file);
-        f.asks(&["dump", "write 100"]);
-    }
     f.label("bytes after the last block are passed over; 261 with width 4 is written back as 259; a working_dim field equal to dim becomes 0");
     f.lend(2, 4);
     let mut file = File::new(261, 3, 4, 2, &[(1, 5)]).bytes();
@@ -1502,8 +1493,7 @@ fn cuts_and_damage(f: &mut Fixed) {
     for file in versions(2, 2, &[(1, 9), (0, 9)]) {
         let (whole, block) = (file.bytes(), file.block());
         let stages = if file.version == 261 { 25 } else { 24 };
-        let scale = if file.version == 1 { 4 } else { 2 };
-        let keys = stages + 2 * (scale + block) * if file.version == 260 { 2 } else { 1 };
+        let keys = stages + 2 * (2 + block) * if file.version == 260 { 2 } else { 1 };
         for at in (0..stages).chain(keys..whole.len()) {
             for change in [0x01, 0x80] {
                 let mut damaged = whole.clone();
@@ -1515,6 +1505,13 @@ fn cuts_and_damage(f: &mut Fixed) {
     }
 }
 
+/// The file with other bytes from there on.
+fn with(file: &[u8], at: usize, bytes: &[u8]) -> Vec<u8> {
+    let mut other = file.to_vec();
+    other[at..at + bytes.len()].copy_from_slice(bytes);
+    other
+}
+
 fn reading_refusals(f: &mut Fixed) {
     f.section("reading: document 01's examples of refusals, and which comes first; nothing changes");
     f.lend(2, 4);
@@ -1522,11 +1519,6 @@ fn reading_refusals(f: &mut Fixed) {
     f.ask(format!("add_keyed 7 {}", nth(4, 1)));
     f.ask("dump");
     let file = |version, dim, count: usize| File::new(version, dim, 4, count, &[]).bytes();
-    let with = |file: &[u8], at: usize, bytes: &[u8]| {
-        let mut other = file.to_vec();
-        other[at..at + bytes.len()].copy_from_slice(bytes);
-        other
-    };
     let whole = file(259, 4, 1);
     let refused = |f: &mut Fixed, what: &str, file: &[u8], number: u8| {
         f.label(what);
@@ -1587,6 +1579,80 @@ fn reading_refusals(f: &mut Fixed) {
     f.label("lines that can't be read");
     f.told_all(&["read", "read 0", "read 0g", "read - -", "read 00 00", "read 0A"], "?");
     f.ask("read -");
+}
+
+/// A whole file of version 1, as it was read before: that of 257 but for its version and its scales, which are binary32.
+fn file_of_version_1(dim: u32, working: u16, scales: &[u32]) -> Vec<u8> {
+    let mut file = File { working, ..File::new(257, dim, 4, scales.len(), &[]) }.bytes();
+    file.splice(24..24 + 2 * scales.len(), scales.iter().flat_map(|scale| scale.to_le_bytes()));
+    with(&file, 4, &[1, 0])
+}
+
+/// "The reader now gives 16 for version 1, at 16's place": the Rust reads these files, and is not asked.
+fn version_one(f: &mut Fixed) {
+    f.section("reading: version 1 is unknown (document 02, Req 07): 16 at its place; by hand, and nothing changes");
+    let refused = |f: &mut Fixed, file: &[u8], number: u8| f.told(format!("read {}", bytes(file)), &format!("refused {number}"));
+    let query = nth(3, 1);
+    f.lend(4, 2);
+    f.asks(&["new 3 1", "bits 4", &format!("add_keyed 7 {query}"), &format!("add {}", nth(3, 2)), "enable", "dump"]);
+    f.label("whole files, of one trait and without slots too; version 1 ignored the working_dim field");
+    for (dim, working, slots) in [(1, 0, 1), (1, 1, 2), (2, 0, 0), (2, 1, 2), (3, 0, 3), (3, 2, 3), (5, 4, 1), (9, 0, 0), (4096, 0, 0)] {
+        refused(f, &file_of_version_1(dim, working, &[ONE, 0x3e80_0000, 0x4040_0000][..slots]), 16);
+    }
+    f.label("whatever the scales: zeros, subnormal numbers, infinities, NaNs, what no half has");
+    for scale in [0, MINUS, 1, 0x7f80_0000, 0xff80_0000, 0x7f80_0001, 0x7fc0_0000, 0xffc0_0000, 0x477f_f000, 0x3f80_1000] {
+        refused(f, &file_of_version_1(3, 0, &[scale, ONE]), 16);
+    }
+    f.label("cut at every length, then with bytes behind the end: 14 of fewer than 24 bytes alone");
+    let whole = file_of_version_1(2, 0, &[ONE, ONE]);
+    let longer = [&whole[..], &[1, 2, 3]].concat();
+    // A file of fewer than six bytes states no version.
+    for length in 6..=longer.len() {
+        refused(f, &longer[..length], if length < 24 { 14 } else { 16 });
+    }
+    f.label("15 before 16, 14 before 15");
+    let other = with(&whole, 0, b"VECR");
+    refused(f, &other, 15);
+    refused(f, &other[..24], 15);
+    refused(f, &other[..23], 14);
+    f.label("16 before 17: a working_dim field over dim; dim 0, the first block whole and short");
+    refused(f, &with(&whole, 6, &[3, 0]), 16);
+    refused(f, &with(&whole, 6, &[0xff, 0xff]), 16);
+    let none = with(&file_of_version_1(1, 0, &[ONE]), 8, &[0; 4]);
+    refused(f, &none, 16);
+    refused(f, &none[..28], 16);
+    refused(f, &with(&none, 6, &[1, 0]), 16);
+    f.label("16 before 20: dim 4,097 and 2^32 - 1, count 65,537, a slot more than the lent arrays hold");
+    refused(f, &with(&whole, 8, &[1, 0x10, 0, 0]), 16);
+    refused(f, &with(&whole, 8, &[0xff; 4]), 16);
+    refused(f, &with(&whole, 20, &[1, 0, 1, 0]), 16);
+    refused(f, &file_of_version_1(3, 0, &[ONE; 5]), 16);
+    f.label("behind the version each byte of the head damaged");
+    for at in 6..24 {
+        for change in [0x01, 0x80] {
+            refused(f, &with(&whole, at, &[whole[at] ^ change]), 16);
+        }
+    }
+    f.label("0, 2 and 256 are as unknown");
+    for version in [0u16, 2, 256] {
+        assert_eq!(read(f, &with(&whole, 4, &version.to_le_bytes())), "refused 16");
+    }
+    f.label("nothing changed");
+    f.asks(&["dump", "contains 7", "key_of 0", &format!("score 1 {query}"), &format!("search 2 2 {query}"), "length", "write 100"]);
+    f.ask(format!("search_cascade 2 2 2 {query}"));
+    f.label("reading never gives 13: a misfit before it, arrays of length 0");
+    f.ask("field live 1");
+    f.told("contains 7", "refused 13");
+    refused(f, &whole, 16);
+    f.ask("lend 0 0 0 0 0 0 0 0");
+    for scales in [&[ONE][..], &[]] {
+        refused(f, &file_of_version_1(1, 0, scales), 16);
+    }
+    f.label("257, which ignores the working_dim field too, is read");
+    f.lend(4, 2);
+    assert_eq!(read(f, &File { working: 2, ..File::new(257, 3, 4, 3, &[]) }.bytes()), "ok");
+    refused(f, &whole, 16);
+    f.ask("dump");
 }
 
 fn order(f: &mut Fixed) {

@@ -641,7 +641,7 @@ impl<W: Write> Script<W> {
         }
     }
 
-    /// A file of any version. Numbers that are refused are rare.
+    /// A file of any version, one of version 1 with halves as 257 has them: it is refused by its version. Numbers that are refused are rare.
     fn made_up(&mut self) -> Vec<u8> {
         let version = self.pick(&[1u16, 257, 258, 259, 259, 260, 260, 261, 261]);
         let dim = self.dim();
@@ -665,9 +665,9 @@ impl<W: Write> Script<W> {
         if version == 261 {
             file.push(width);
         }
-        self.stage(&mut file, version, count, block);
+        self.stage(&mut file, count, block);
         if version == 260 {
-            self.stage(&mut file, version, count, block);
+            self.stage(&mut file, count, block);
         }
         if version == 260 && self.rarely(10) {
             // It ends before its key count.
@@ -678,13 +678,9 @@ impl<W: Write> Script<W> {
         file
     }
 
-    fn stage(&mut self, file: &mut Vec<u8>, version: u16, count: usize, block: usize) {
+    fn stage(&mut self, file: &mut Vec<u8>, count: usize, block: usize) {
         for _ in 0..count {
-            if version == 1 {
-                file.extend(self.random.unit().to_le_bytes());
-            } else {
-                file.extend(self.half().to_le_bytes());
-            }
+            file.extend(self.half().to_le_bytes());
         }
         file.extend((0..count * block).map(|_| self.random.word() as u8));
     }

@@ -16,8 +16,7 @@ pub fn form_of(version: u16) -> Form
     ensures { result ≡ form_of version }
 {
     Form {
-        known: matches!(version, 1 | 257..=261),
-        scale: if version == 1 { 4 } else { 2 },
+        known: (257..=261).contains(&version),
         width: version == 261,
         second: version == 260,
         keys: 259 <= version,
@@ -47,10 +46,10 @@ pub fn stages_at(form: Form) -> usize
 }
 
 // How many bytes the scales and the codes of one stage take: n slots, blocks of so many bytes.
-pub fn stage_size(form: Form, block: u16, n: u32) -> usize
-    ensures { result ≡ stage_size form block n }
+pub fn stage_size(block: u16, n: u32) -> usize
+    ensures { result ≡ stage_size block n }
 {
-    n as usize * form.scale as usize + n as usize * block as usize
+    n as usize * 2 + n as usize * block as usize
 }
 
 // How many bytes a table of k key entries takes.

@@ -1,13 +1,13 @@
--- What an accepted reading has passed, and that what is read is sound with rising held order.
+-- Fields of a file, what an accepted reading has passed, and that what is read is sound with rising held order.
 use mathlib.Core.Path.{◌≡◌, refl, sym, ap, ap₂, ◌∙◌}
 use mathlib.Core.Bool.{Bool, true, false, not, cond, ◌||◌}
 use mathlib.Core.List.{List, [], ◌∷◌, map}
 use mathlib.Core.Option.{Option, none, some}
-use Prim.Native.Nat.{ℕ, zero, suc, ◌*◌, ◌≤◌, ◌<◌}
+use Prim.Native.Nat.{ℕ, zero, suc, ◌+◌, ◌*◌, ◌≤◌, ◌<◌}
 use native.Mathlib.Nat.{suc-mul, mul-le-mul_right}
 use native.Mathlib.Omega.{arith}
-use lib.ListN.{length, drop, length-drop}
-use lib.Seq.{drop-drop}
+use lib.ListN.{length, take, drop, length-drop}
+use lib.Seq.{drop-drop, take-take}
 use lib.Dec.{eqb}
 use borrow.Author.Tests.{le-leb, ltb-false, eqb-true, eqb-false, ne_eqb}
 use Rattle.lists.specs.Lists.{tab}
@@ -15,6 +15,7 @@ use Rattle.lists.specs.Keep.{Each}
 use Rattle.lists.proofs.Laws.{length-tab}
 use Rattle.lists.proofs.Keep.{keep_all}
 use Rattle.lists.proofs.Front.{each-tab}
+use Rattle.digits.specs.Digits.{number}
 use Rattle.encode.specs.Header.{block_size}
 use Rattle.index.specs.declared.Index.{Index}
 use Rattle.index.specs.Verdict.{Verdict, granted, turned_down}
@@ -24,12 +25,22 @@ use Rattle.index.specs.Fit.{between, fit}
 use Rattle.index.specs.Step.{first_of, key_of_mark, one_more, rising, compacted}
 use Rattle.index.specs.Sound.{block_length, Shaped, AllShaped, marks, OnceEach, Ranged, Sound}
 use Rattle.index.specs.Form.{form_of, stages_at, second_at, keys_at, end_at}
-use Rattle.index.specs.Read.{version_in, form_in, dim_in, count_in, working_field, header_in, head_fault, stage_from, well_keyed, key_from, mark_from, first_length, second_length, stages_in, second_in, table_in, table_length, stated_end, tail_in, entries_in, slot_in, slots_in, state_in, read_refusal, read_into}
+use Rattle.index.specs.Read.{little_endian, version_in, form_in, dim_in, count_in, working_field, header_in, head_fault, stage_from, well_keyed, key_from, mark_from, first_length, second_length, stages_in, second_in, table_in, table_length, stated_end, tail_in, entries_in, slot_in, slots_in, state_in, read_refusal, read_into}
 use Rattle.index.proofs.Blocks.{length-block}
 use Rattle.index.proofs.Fits.{sound-fit, laid-back}
 use Rattle.index.proofs.Changes.{once-compacted}
 use Rattle.index.proofs.Kept.{first-none, when-none, rising-length, rising-shaped}
 use Rattle.index.specs.Make.{begun_unless}
+
+-- ---- fields
+
+-- a number that lies within the first m bytes
+pub number_cut : (n k m : ℕ) (file : List ℕ) → k + n ≤ m → little_endian n (drop k (take m file)) ≡ little_endian n (drop k file)
+unfolding little_endian
+number_cut n zero m file h = ap (number 256) (take-take n m file (omega arith))
+number_cut n (suc k) zero file h = absurd (omega arith)
+number_cut n (suc k) (suc m) [] h = refl
+number_cut n (suc k) (suc m) (x ∷ file) h = number_cut n k m file (omega arith)
 
 -- ---- what was passed
 
@@ -212,13 +223,13 @@ module _ (file : List ℕ) where
         plain false e = refl
 
     stage-sized : (bytes : List ℕ) → first_length file ≤ length bytes → (i : ℕ) → i < count_in file →
-        length (stage_from (form_in file) (block_size (header_in file)) (count_in file) bytes i).block ≡ block_size (header_in file)
+        length (stage_from (block_size (header_in file)) (count_in file) bytes i).block ≡ block_size (header_in file)
     unfolding stage_from
     stage-sized bytes l i k =
         let w : ℕ = block_size (header_in file) in
         let m : suc i * w ≤ count_in file * w = mul-le-mul_right w k in
-        length-block w i (drop (count_in file * (form_in file).scale) bytes)
-        (rw (length-drop (count_in file * (form_in file).scale) bytes) (omega (arith, suc-mul i w)))
+        length-block w i (drop (count_in file * 2) bytes)
+        (rw (length-drop (count_in file * 2) bytes) (omega (arith, suc-mul i w)))
 
     loose-shaped : AllShaped (header_in file) loose
     unfolding slot_in header_in
@@ -227,7 +238,7 @@ module _ (file : List ℕ) where
         (λ i l. record { first = stage-sized (stages_in file) t.first i l; second = go (form_in file).second i l t.second })
       where
         go : (b : Bool) (i : ℕ) → i < count_in file → cond b (first_length file) 0 ≤ length (second_in file) →
-            block_length (cond b (some (stage_from (form_in file) (block_size (header_in file)) (count_in file) (second_in file) i)) none) ≡ cond b (some (block_size (header_in file))) none
+            block_length (cond b (some (stage_from (block_size (header_in file)) (count_in file) (second_in file) i)) none) ≡ cond b (some (block_size (header_in file))) none
         go true i l k = ap some (stage-sized (second_in file) k i l)
         go false i l k = refl
 

@@ -3,7 +3,7 @@
 --
 --   24 bytes: VECQ, version, working_dim, dim, seed, count │ width byte │ n scales, n blocks │ n scales, n blocks │ key count, k entries │
 --                                                                       `stages_at`           `second_at`           `keys_at`               `end_at`
-use Rattle.std.specs.Prelude.{cond, ◌||◌, ℕ, ◌+◌, ◌*◌, eqb, leb}
+use Rattle.std.specs.Prelude.{cond, ℕ, ◌+◌, ◌*◌, eqb, leb}
 use Rattle.lists.specs.Keep.{bit}
 use Rattle.index.specs.declared.Form.{Form}
 use Rattle.index.specs.Fit.{between}
@@ -11,19 +11,21 @@ use Rattle.index.specs.Fit.{between}
 unfoldable pub form_of : (version : ℕ) → Form
 form_of v =
     record {
-      -- "Written: 259 at 4 bits, 260 residual, 261 at 5 and 6. Read: also 1 .., 257, 258"
-      known = eqb v 1 || between 257 261 v;
-      -- "1 (binary32 scales)", else halves
-      scale = cond (eqb v 1) 4 2;
+      -- "Written: 259 at 4 bits, 260 residual, 261 at 5 and 6. Read: also .., 257, 258". Of version 1, with binary32 scales, 02 says (07): "The reader now gives 16 for version 1"
+      known = between 257 261 v;
       -- "width byte for 261"
       width = eqb v 261;
       -- "for 260 again scales and codes"
       second = eqb v 260;
-      -- "1 .., 257, 258, none with keys"
+      -- "257, 258, none with keys"
       keys = leb 259 v;
       -- "1 and 257 ignore the working_dim field"
       working = leb 258 v;
     }
+
+-- "scales; codes": of n slots, each scale a half, a block of codes being so many bytes
+abbrev pub stage_size : (block n : ℕ) → ℕ
+stage_size block n = n * 2 + n * block
 
 module _ (f : Form) where
   -- "VECQ, version 16-bit, working_dim 16-bit .., dim 32, seed 64, live count 32; width byte for 261; scales"
@@ -36,15 +38,11 @@ module _ (f : Form) where
 
   -- a block of codes being so many bytes, n slots and k key entries
   module _ (block n : ℕ) where
-    -- "scales; codes"
-    abbrev pub stage_size : ℕ
-    stage_size = n * f.scale + n * block
-
     abbrev pub second_at : ℕ
-    second_at = stages_at + stage_size
+    second_at = stages_at + stage_size block n
 
     abbrev pub keys_at : ℕ
-    keys_at = second_at + cond f.second stage_size 0
+    keys_at = second_at + cond f.second (stage_size block n) 0
 
     unfoldable pub end_at : (k : ℕ) → ℕ
     end_at k = keys_at + table_size k

@@ -70,16 +70,12 @@ module _ (file : List ℕ) where
   abbrev pub over_limits : Bool
   over_limits = ltb 4096 dim_in || ltb 65536 count_in
 
--- ---- stages: of this form, with n slots and blocks of w bytes
+-- ---- stages, with n slots and blocks of w bytes
 
--- a scale of 4 bytes is its pattern; a half reads as its value, a NaN "with its fraction moved up 13 places"
-abbrev pub scale_from : Form → ℕ → ℕ
-scale_from f x = cond (eqb f.scale 4) x (widened x)
-
--- of slot i, from bytes that begin with the scales
-unfoldable pub stage_from : Form → (w n : ℕ) → (bytes : List ℕ) → (i : ℕ) → Stage
-stage_from f w n bytes i =
-    record { scale = scale_from f (little_endian f.scale (drop (i * f.scale) bytes)); block = block_at w i (drop (n * f.scale) bytes) }
+-- of slot i, from bytes that begin with the scales: a half reads as its value, a NaN "with its fraction moved up 13 places"
+unfoldable pub stage_from : (w n : ℕ) → (bytes : List ℕ) → (i : ℕ) → Stage
+stage_from w n bytes i =
+    record { scale = widened (little_endian 2 (drop (i * 2) bytes)); block = block_at w i (drop (n * 2) bytes) }
 
 -- ---- key entries
 
@@ -109,7 +105,7 @@ mark_from (some k) = keyed k 0
 
 module _ (file : List ℕ) where
   abbrev pub first_length : ℕ
-  first_length = stage_size (form_in file) (block_size (header_in file)) (count_in file)
+  first_length = stage_size (block_size (header_in file)) (count_in file)
 
   -- a second stage is as long as the first
   abbrev pub second_length : ℕ
@@ -144,7 +140,7 @@ module _ (file : List ℕ) where
 
   unfoldable pub slot_in : (i : ℕ) → Slot
   slot_in i =
-      let stage = stage_from (form_in file) (block_size (header_in file)) (count_in file) in
+      let stage = stage_from (block_size (header_in file)) (count_in file) in
       record {
         mark = mark_from (key_from entries_in i);
         code = record { first = stage stages_in i; second = cond (form_in file).second (some (stage second_in i)) none };

@@ -70,13 +70,12 @@ pub struct Added {
     pub index: Index,
 }
 
-// What a version of the byte form has: whether it is read, how many bytes a scale takes, and whether there is a width byte, a second stage, a key table,
+// What a version of the byte form has: whether it is read, and whether there is a width byte, a second stage, a key table,
 // a working_dim field that counts. `known` is a flag, since the other fields have their values at an unknown version too, and `head_in` and `stages_in`
 // (header), whose promises hold of any file, read them.
 #[derive(Clone, Copy)]
 pub struct Form {
     pub known: bool,
-    pub scale: u8,
     pub width: bool,
     pub second: bool,
     pub keys: bool,

@@ -80,10 +80,6 @@ module _ (h : Header) (es : List Entry) where
       go false true = four
       go false false = width
 
-  pub form-scale : form.scale ≡ 2
-  unfolding form_of
-  form-scale = written-version (λ v. (form_of v).scale ≡ 2) refl refl refl
-
   pub form-keys : form.keys ≡ true
   unfolding form_of
   form-keys = written-version (λ v. (form_of v).keys ≡ true) refl refl refl
@@ -159,17 +155,16 @@ module _ (h : Header) where
     pub second-begins : length to_second ≡ second_at (form h es) (block_size h) (length es)
     second-begins =
         length-append to_stages (stage_bytes (map (λ e. e.code.first) es))
-        ∙ rw (form-scale h es)
-        (omega (
+        ∙ omega (
           arith,
           stages-begin,
           stage-length (block_size h) (map (λ e. e.code.first) es) first-blocks,
           ap (λ (n : ℕ). n * 2) (length-map es (λ (e : Entry). e.code.first)),
           ap (λ (n : ℕ). n * block_size h) (length-map es (λ (e : Entry). e.code.first)),
-        ))
+        )
 
-    second-length : length (stage_bytes (second_stages es)) ≡ cond (form h es).second (stage_size (form h es) (block_size h) (length es)) 0
-    second-length = rw (form-second h es, form-scale h es) (go h.residual (stages-of h.residual refl es shape))
+    second-length : length (stage_bytes (second_stages es)) ≡ cond (form h es).second (stage_size (block_size h) (length es)) 0
+    second-length = rw (form-second h es) (go h.residual (stages-of h.residual refl es shape))
       where
         go : (b : Bool) → (length (second_stages es) ≡ cond b (length es) 0) × Blocked (block_size h) (second_stages es) →
             length (stage_bytes (second_stages es)) ≡ cond b (length es * 2 + length es * block_size h) 0

@@ -112,7 +112,7 @@ fn length_of(version: u16, block: usize, counts: Counts) -> usize
     ensures { result ≡ end_at (form_of version) block counts.live counts.keyed }
 {
     let form = form::form_of(version);
-    let stage = form::stage_size(form, block as u16, counts.live as u32);
+    let stage = form::stage_size(block as u16, counts.live as u32);
     let second = if form.second { stage } else { 0 };
     form::stages_at(form) + stage + second + form::table_size(form, counts.keyed as u32)
 }

@@ -7,25 +7,17 @@ use native.Mathlib.Omega.{arith}
 use borrow.Author.Tests.{le-ltb}
 use lib.Dec.{ltb, eqb}
 use lib.ListN.{length, take, drop}
-use lib.Seq.{take-take, length-take-le}
+use lib.Seq.{length-take-le}
 use Rattle.lists.specs.Keep.{bit}
-use Rattle.digits.specs.Digits.{number}
 use Rattle.index.specs.Fit.{between}
 use Rattle.index.specs.Form.{form_of, stages_at}
 use Rattle.index.specs.File.{magic}
 use Rattle.index.specs.Step.{first_of, when}
 use Rattle.index.specs.Read.{little_endian, version_in, form_in, dim_in, header_in, head_fault}
+use Rattle.index.proofs.Read.{number_cut}
 use Rattle.listed.specs.Listing.{refusal_line, text_unless, listing_text}
 use Rattle.listed.specs.Whole.{PartTells}
 use Rattle.listed.proofs.Refusal.{long-refusal}
-
--- a number that lies within the first m bytes
-number_cut : (n k m : ℕ) (file : List ℕ) → k + n ≤ m → little_endian n (drop k (take m file)) ≡ little_endian n (drop k file)
-unfolding little_endian
-number_cut n zero m file h = ap (number 256) (take-take n m file (omega arith))
-number_cut n (suc k) zero file h = absurd (omega arith)
-number_cut n (suc k) (suc m) [] h = refl
-number_cut n (suc k) (suc m) (x ∷ file) h = number_cut n k m file (omega arith)
 
 -- the head's refusal by its fields; `short`: the file has fewer than 24 bytes; `ended`: a width byte is missing
 unfoldable fault_of : (short : Bool) → (name version dim field : ℕ) → (ended : Bool) → (width : ℕ) → ℕ

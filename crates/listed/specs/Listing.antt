@@ -1,13 +1,12 @@
 -- The text of a listing: document 01, the last of "Worked by hand".
-use Rattle.std.specs.Prelude.{false, cond, List, [], ◌∷◌, ◌++◌, ℕ, zero, suc, ◌+◌, ◌*◌, ◌/◌, ◌%◌, length, drop, replicate, eqb, ltb}
+use Rattle.std.specs.Prelude.{false, cond, List, [], ◌∷◌, ◌++◌, ℕ, zero, suc, ◌+◌, ◌*◌, ◌/◌, ◌%◌, length, drop, replicate, ltb}
 use Rattle.std.proofs.Math.Option.{Option, none, some}
 use Rattle.lists.specs.Lists.{tab, joined}
-use Rattle.half.specs.Half.{narrowed}
 use Rattle.numerals.specs.Numerals.{decimal_text}
 use Rattle.encode.specs.declared.Header.{Header}
 use Rattle.index.specs.Arrays.{Arrays}
 use Rattle.index.specs.Step.{first_of, when}
-use Rattle.index.specs.Read.{little_endian, version_in, form_in, count_in, header_in, head_fault, stages_in, key_from, entries_in, read_refusal}
+use Rattle.index.specs.Read.{little_endian, version_in, count_in, header_in, head_fault, stages_in, key_from, entries_in, read_refusal}
 
 -- ---- refusals
 
@@ -57,10 +56,9 @@ refusal_line n = decimal_text n ++ newline
 
 -- ---- the text
 
--- "the first scale as a half, rounded for version 1", whose scales have 4 bytes
+-- "the first scale as a half": as the file has it
 unfoldable pub half_in : (file : List ℕ) → (slot : ℕ) → ℕ
-half_in file i =
-    cond (eqb (form_in file).scale 4) (narrowed (little_endian 4 (drop (i * 4) (stages_in file)))) (little_endian 2 (drop (i * 2) (stages_in file)))
+half_in file i = little_endian 2 (drop (i * 2) (stages_in file))
 
 -- a line for each slot of the file: all of them are live
 abbrev pub lines_of : (file : List ℕ) → (key_of : ℕ → Option ℕ) → List ℕ

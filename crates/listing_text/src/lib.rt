@@ -63,15 +63,11 @@ fn long_refusal(file: &[u8]) -> Refusal
     }
 }
 
-// The first scale of a slot as a half: as the file has it, so that a NaN stays as it stands. A binary32 scale is rounded.
+// The first scale of a slot as a half: as the file has it, so that a NaN stays as it stands.
 fn half_of(file: &[u8], slot: u32) -> u16
     ensures { result ≡ half_in file.now slot }
 {
     let scales = header::stages_in(file);
-    if form::form_of(header::head_in(file).version).scale == 4 {
-        let pattern = little_endian::rd_u32(little_endian::after(scales, slot as usize * 4));
-        return half::f32_to_f16_bits(pattern);
-    }
     little_endian::rd_u16(little_endian::after(scales, slot as usize * 2))
 }
 

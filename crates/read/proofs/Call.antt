@@ -46,25 +46,24 @@ module _ (file : List ℕ) (a : Arrays) (none : read_refusal file a ≡ 0) where
     en = rw eg at count_is
 
     pub first-room : (bytes : List ℕ) → bytes ≡ stages_in g →
-        ((n ≤ 65536) × (n * w ≤ length a.codes) × (n ≤ length a.scales)) × (stage_size f w n ≤ length bytes)
-    first-room bytes eb = rw (ef, ew, en, eb, eg) ((few, room.codes, room.scales), passed.first)
+        ((n ≤ 65536) × (n * w ≤ length a.codes) × (n ≤ length a.scales)) × (stage_size w n ≤ length bytes)
+    first-room bytes eb = rw (ew, en, eb, eg) ((few, room.codes, room.scales), passed.first)
 
     pub marks-room : (n ≤ 65536) × (n ≤ length a.keys) × (n ≤ length a.keyed) × (n ≤ length a.held) × (n ≤ length a.alive)
     marks-room = rw en (few, room.keys, room.keyed, room.held, room.alive)
 
     pub second-room : (bytes : List ℕ) (m : ℕ) → bytes ≡ second_in g → m ≡ cond f.second n 0 →
-        ((m ≤ 65536) × (m * w ≤ length a.codes2) × (m ≤ length a.scales2)) × (stage_size f w m ≤ length bytes)
+        ((m ≤ 65536) × (m * w ≤ length a.codes2) × (m ≤ length a.scales2)) × (stage_size w m ≤ length bytes)
     unfolding header_in
     second-room bytes m eb em = rw (em, ef, ew, en, eb, eg) (go (form_in file).second refl passed.second)
       where
         go : (b : Bool) → (form_in file).second ≡ b → cond b (first_length file) 0 ≤ length (second_in file) →
             ((cond b (count_in file) 0 ≤ 65536) × (cond b (count_in file) 0 * block_size (header_in file) ≤ length a.codes2) × (cond b (count_in file) 0 ≤ length a.scales2))
-            × (stage_size (form_in file) (block_size (header_in file)) (cond b (count_in file) 0) ≤ length (second_in file))
+            × (stage_size (block_size (header_in file)) (cond b (count_in file) 0) ≤ length (second_in file))
         go true q l = ((few, room.codes2 q, room.scales2 q), l)
         go false q l =
             let z = zero-mul (block_size (header_in file)) in
-            let y = zero-mul (form_in file).scale in
-            ((omega arith, omega (arith, z), omega arith), omega (arith, z, y))
+            ((omega arith, omega (arith, z), omega arith), omega (arith, z))
 
     -- what the program has done by these numbers
     pub record Done (b : Arrays) (stages second table : List ℕ) (k m : ℕ) : Type 0 where
@@ -73,14 +72,14 @@ module _ (file : List ℕ) (a : Arrays) (none : read_refusal file a ≡ 0) where
       pub table_is : table ≡ table_in g
       pub entries-are : k ≡ entry_count g
       pub seconds-are : m ≡ cond f.second n 0
-      pub codes : b.codes ≡ over (blocks_of (tab (stage_from f w n stages) n)) a.codes
-      pub scales : b.scales ≡ over (scales_of (tab (stage_from f w n stages) n)) a.scales
+      pub codes : b.codes ≡ over (blocks_of (tab (stage_from w n stages) n)) a.codes
+      pub scales : b.scales ≡ over (scales_of (tab (stage_from w n stages) n)) a.scales
       pub keys : b.keys ≡ over (tab (word_from table k) n) a.keys
       pub keyed : b.keyed ≡ over (tab (on_from table k) n) a.keyed
       pub held : b.held ≡ over (tab (rising_position b.keys b.keyed) n) a.held
       pub alive : b.alive ≡ over (tab (λ _. 1) n) (no_marks a.alive)
-      pub codes2 : b.codes2 ≡ over (blocks_of (tab (stage_from f w m second) m)) a.codes2
-      pub scales2 : b.scales2 ≡ over (scales_of (tab (stage_from f w m second) m)) a.scales2
+      pub codes2 : b.codes2 ≡ over (blocks_of (tab (stage_from w m second) m)) a.codes2
+      pub scales2 : b.scales2 ≡ over (scales_of (tab (stage_from w m second) m)) a.scales2
 
     fills : (b : Arrays) (stages second table : List ℕ) (k m : ℕ) → Done b stages second table k m → Filled file a b
     fills b stages second table k m d =
@@ -90,14 +89,14 @@ module _ (file : List ℕ) (a : Arrays) (none : read_refusal file a ≡ 0) where
         let eb : table ≡ table_in file = rw eg at d.table_is in
         let ek : k ≡ entry_count file = rw eg at d.entries-are in
         record {
-          codes = d.codes ∙ (λ i. over (blocks_of (tab (stage_from (ef i) (ew i) (en i) (es i)) (en i))) a.codes);
-          scales = d.scales ∙ (λ i. over (scales_of (tab (stage_from (ef i) (ew i) (en i) (es i)) (en i))) a.scales);
+          codes = d.codes ∙ (λ i. over (blocks_of (tab (stage_from (ew i) (en i) (es i)) (en i))) a.codes);
+          scales = d.scales ∙ (λ i. over (scales_of (tab (stage_from (ew i) (en i) (es i)) (en i))) a.scales);
           keys = d.keys ∙ (λ i. over (tab (word_from (eb i) (ek i)) (en i)) a.keys);
           keyed = d.keyed ∙ (λ i. over (tab (on_from (eb i) (ek i)) (en i)) a.keyed);
           held = d.held ∙ (λ i. over (tab (rising_position b.keys b.keyed) (en i)) a.held);
           alive = d.alive ∙ (λ i. over (tab (λ _. 1) (en i)) (no_marks a.alive));
-          codes2 = d.codes2 ∙ (λ i. over (blocks_of (tab (stage_from (ef i) (ew i) (em i) (et i)) (em i))) a.codes2);
-          scales2 = d.scales2 ∙ (λ i. over (scales_of (tab (stage_from (ef i) (ew i) (em i) (et i)) (em i))) a.scales2);
+          codes2 = d.codes2 ∙ (λ i. over (blocks_of (tab (stage_from (ew i) (em i) (et i)) (em i))) a.codes2);
+          scales2 = d.scales2 ∙ (λ i. over (scales_of (tab (stage_from (ew i) (em i) (et i)) (em i))) a.scales2);
         }
 
     pub done : (b : Arrays) (stages second table : List ℕ) (k m : ℕ) → Done b stages second table k m → (x : Index) → x ≡ record_of (state_in file) → begun (granted x) b ≡ read_into a file

@@ -56,30 +56,30 @@ module _ (file : List ℕ) where
 
   -- what the program has done
   pub record Filled (a b : Arrays) : Type 0 where
-    pub codes : b.codes ≡ over (blocks_of (tab (stage_from f w n (stages_in file)) n)) a.codes
-    pub scales : b.scales ≡ over (scales_of (tab (stage_from f w n (stages_in file)) n)) a.scales
+    pub codes : b.codes ≡ over (blocks_of (tab (stage_from w n (stages_in file)) n)) a.codes
+    pub scales : b.scales ≡ over (scales_of (tab (stage_from w n (stages_in file)) n)) a.scales
     pub keys : b.keys ≡ over (tab (word_from (table_in file) (entry_count file)) n) a.keys
     pub keyed : b.keyed ≡ over (tab (on_from (table_in file) (entry_count file)) n) a.keyed
     pub held : b.held ≡ over (tab (rising_position b.keys b.keyed) n) a.held
     pub alive : b.alive ≡ over (tab (λ _. 1) n) (no_marks a.alive)
-    pub codes2 : b.codes2 ≡ over (blocks_of (tab (stage_from f w (cond f.second n 0) (second_in file)) (cond f.second n 0))) a.codes2
-    pub scales2 : b.scales2 ≡ over (scales_of (tab (stage_from f w (cond f.second n 0) (second_in file)) (cond f.second n 0))) a.scales2
+    pub codes2 : b.codes2 ≡ over (blocks_of (tab (stage_from w (cond f.second n 0) (second_in file)) (cond f.second n 0))) a.codes2
+    pub scales2 : b.scales2 ≡ over (scales_of (tab (stage_from w (cond f.second n 0) (second_in file)) (cond f.second n 0))) a.scales2
 
   -- ---- stages
 
-  firsts : map (λ s. s.code.first) (slots_in file) ≡ tab (stage_from f w n (stages_in file)) n
+  firsts : map (λ s. s.code.first) (slots_in file) ≡ tab (stage_from w n (stages_in file)) n
   unfolding slots_in slot_in
   firsts = rising-map (λ s. s.code.first) (λ k p q c. refl) (λ k. 0) loose ∙ map-tab (λ (s : Slot). s.code.first) (slot_in file) n
 
   module _ (shape : AllShaped (header_in file) (slots_in file)) where
-    second-stages : seconds (slots_in file) ≡ tab (stage_from f w (cond f.second n 0) (second_in file)) (cond f.second n 0)
+    second-stages : seconds (slots_in file) ≡ tab (stage_from w (cond f.second n 0) (second_in file)) (cond f.second n 0)
     unfolding header_in slots_in slot_in
     second-stages = go f.second refl
       where
-        go : (b : Bool) → f.second ≡ b → seconds (slots_in file) ≡ tab (stage_from f w (cond b n 0) (second_in file)) (cond b n 0)
+        go : (b : Bool) → f.second ≡ b → seconds (slots_in file) ≡ tab (stage_from w (cond b n 0) (second_in file)) (cond b n 0)
         go true e =
             residual-seconds (header_in file) e (slots_in file) shape ∙ rising-map second_of (λ k p q c. refl) (λ k. 0) loose ∙ map-tab second_of (slot_in file) n
-            ∙ tab-ext (λ i. second_of (slot_in file i)) (stage_from f w n (second_in file)) n (λ i l. rw e)
+            ∙ tab-ext (λ i. second_of (slot_in file i)) (stage_from w n (second_in file)) n (λ i l. rw e)
         go false e = plain-seconds (header_in file) e (slots_in file) shape
 
   -- ---- keys and marks

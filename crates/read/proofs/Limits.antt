@@ -1,6 +1,5 @@
 -- The numbers of a file whose head and limits are sound.
-use mathlib.Core.Path.{◌≡◌, refl, sym, ap, ◌∙◌}
-use mathlib.Core.Logic.{◌⊎◌, ◌≢◌, inl, inr, ⊎_elim}
+use mathlib.Core.Path.{◌≡◌, sym, ap, ◌∙◌}
 use mathlib.Core.Bool.{false, cond}
 use mathlib.Core.List.{List}
 use Prim.Native.Nat.{ℕ, ◌≤◌}
@@ -11,12 +10,10 @@ use Rattle.lists.proofs.Keep.{either}
 use Rattle.lists.proofs.Front.{map-tab}
 use Rattle.codes.specs.Writing.{at_width}
 use Rattle.encode.specs.Header.{block_size}
-use Rattle.index.specs.declared.Form.{Form}
 use Rattle.index.specs.declared.Index.{Index}
 use Rattle.index.specs.Arrays.{Arrays}
 use Rattle.index.specs.State.{header_of, capacity, record_of}
-use Rattle.index.specs.Form.{form_of}
-use Rattle.index.specs.Read.{version_in, form_in, dim_in, count_in, working_field, header_in, head_fault, over_limits, entry_from, well_keyed, table_in, entry_count, entries_in, state_in}
+use Rattle.index.specs.Read.{dim_in, count_in, working_field, header_in, head_fault, over_limits, entry_from, well_keyed, table_in, entry_count, entries_in, state_in}
 use Rattle.lists.proofs.Tests.{and_left, and_right}
 use Rattle.index.proofs.Kept.{when-none}
 use Rattle.index.proofs.Read.{all-passed, or-none, not-not}
@@ -24,14 +21,6 @@ use Rattle.fit.proofs.Rooms.{in-width}
 use Rattle.read.specs.Table.{slots_from}
 use Rattle.layout.proofs.Numbers.{small-block}
 use Rattle.read.specs.Parts.{keys_sound}
-
--- every version has scales of 4 bytes or of 2
-form-scaled : (v : ℕ) → ((form_of v).scale ≡ 4) ⊎ ((form_of v).scale ≡ 2)
-unfolding form_of
-form-scaled v = either (λ (s : ℕ). (s ≡ 4) ⊎ (s ≡ 2)) (eqb v 1) (inl refl) (inr refl)
-
-pub half-scaled : (file : List ℕ) (f : Form) → f ≡ form_in file → f.scale ≢ 4 → f.scale ≡ 2
-half-scaled file f e other = rw e (⊎_elim (λ (h : (form_in file).scale ≡ 4). absurd (other (rw e h))) (λ (h : (form_in file).scale ≡ 2). h) (form-scaled (version_in file)))
 
 pub few-slots : (file : List ℕ) → over_limits file ≡ false → count_in file ≤ 65536
 few-slots file low = ltb-false 65536 (count_in file) (or-none (ltb 4096 (dim_in file)) (ltb 65536 (count_in file)) low).1

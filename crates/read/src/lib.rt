@@ -4,13 +4,14 @@
 ghost use Rattle.std.specs.Prelude.{◌≡◌, true, false, cond, ◌*◌, ◌≤◌, length, drop, set, ltb};
 ghost use Rattle.lists.specs.Lists.{tab, over};
 ghost use Rattle.marks.specs.Live.{marks_in, no_marks};
+ghost use Rattle.half.specs.Half.{widened};
 ghost use Rattle.encode.specs.Header.{block_size};
 ghost use Rattle.refusal.specs.Refusal.{fault_of};
 ghost use Rattle.index.specs.Lent.{contents, contents_mut, SameLent};
 ghost use Rattle.index.specs.Verdict.{verdict};
 ghost use Rattle.index.specs.State.{record_of, scales_of, blocks_of};
 ghost use Rattle.index.specs.Form.{stage_size};
-ghost use Rattle.index.specs.Read.{little_endian, form_in, header_in, count_in, head_fault, over_limits, first_length, second_length, stages_in, second_in, table_in, entry_count, scale_from, stage_from, entry_from, well_keyed, state_in, read_refusal, read_into};
+ghost use Rattle.index.specs.Read.{little_endian, form_in, header_in, count_in, head_fault, over_limits, first_length, second_length, stages_in, second_in, table_in, entry_count, stage_from, entry_from, well_keyed, state_in, read_refusal, read_into};
 ghost use Rattle.held_order.specs.Restored.{rising_position};
 ghost use Rattle.index.specs.Make.{begun};
 ghost use Rattle.read.specs.Table.{slots_from, word_from, on_from};
@@ -100,6 +101,19 @@ fn read_marks(
     marks::mark_live(alive, n);
 }
 
+// ---- scales
+
+// The scales that the bytes begin with: halves, read as binary32 patterns.
+fn read_scales(scales: &mut [u32], bytes: &[u8], n: usize)
+    requires { (n ≤ length scales.old) × (n ≤ 65536) }
+    ensures { scales.new ≡ over (tab (λ i. widened (little_endian 2 (drop (i * 2) bytes.now))) n) scales.old }
+{
+    for (i, scale) in scales[..n].iter_mut().enumerate() {
+        let half = little_endian::rd_u16(little_endian::after(bytes, i * 2));
+        *scale = half::f16_bits_to_f32(half);
+    }
+}
+
 // ---- the head
 
 // Refusal 20 for dim and count alone.
@@ -165,7 +179,7 @@ impl<'a> File<'a> {
     fn stage_length(&self) -> usize
         ensures { result ≡ first_length self.now.bytes.now }
     {
-        form::stage_size(self.form, self.block, self.n)
+        form::stage_size(self.block, self.n)
     }
 
     // How long the second stage is; 0 where there is none.
@@ -255,37 +269,16 @@ impl<'a> File<'a> {
 
     // ---- stages
 
-    // The scale that the bytes begin with, as a binary32 pattern.
-    fn scale_from(&self, bytes: &[u8]) -> u32
-        ensures { result ≡ scale_from self.now.form (little_endian self.now.form.scale bytes.now) }
-    {
-        if self.form.scale == 4 {
-            return little_endian::rd_u32(bytes);
-        }
-        half::f16_bits_to_f32(little_endian::rd_u16(bytes))
-    }
-
-    fn read_scales(&self, scales: &mut [u32], bytes: &[u8], n: usize)
-        requires { (n ≤ length scales.old) × (n ≤ 65536) }
-        ensures { scales.new ≡ over (tab (λ i. scale_from self.now.form
-            (little_endian self.now.form.scale (drop (i * self.now.form.scale) bytes.now))) n) scales.old }
-    {
-        let size = self.form.scale as usize;
-        for (i, scale) in scales[..n].iter_mut().enumerate() {
-            *scale = self.scale_from(little_endian::after(bytes, i * size));
-        }
-    }
-
     // The scales and the blocks of one stage, from bytes that begin with the scales.
     fn read_stage(&self, codes: &mut [u8], scales: &mut [u32], bytes: &[u8], n: u32)
         requires room { (n ≤ 65536) × (n * self.now.block ≤ length codes.old) × (n ≤ length scales.old) }
-        requires bytes_fit { stage_size self.now.form self.now.block n ≤ length bytes.now }
-        ensures codes_after { codes.new ≡ over (blocks_of (tab (stage_from self.now.form self.now.block n bytes.now) n)) codes.old }
-        ensures scales_after { scales.new ≡ over (scales_of (tab (stage_from self.now.form self.now.block n bytes.now) n)) scales.old }
+        requires bytes_fit { stage_size self.now.block n ≤ length bytes.now }
+        ensures codes_after { codes.new ≡ over (blocks_of (tab (stage_from self.now.block n bytes.now) n)) codes.old }
+        ensures scales_after { scales.new ≡ over (scales_of (tab (stage_from self.now.block n bytes.now) n)) scales.old }
     {
         let n = n as usize;
-        self.read_scales(scales, bytes, n);
-        let blocks = little_endian::after(bytes, n * self.form.scale as usize);
+        read_scales(scales, bytes, n);
+        let blocks = little_endian::after(bytes, n * 2);
         let end = n * self.block as usize;
         codes[..end].copy_from_slice(&blocks[..end]);
     }

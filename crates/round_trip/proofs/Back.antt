@@ -7,7 +7,7 @@ use Prim.Native.Nat.{ℕ, ◌+◌, ◌^◌, ◌≤◌, ◌<◌}
 use native.Mathlib.Omega.{arith}
 use lib.ListN.{length, drop, get_or, length-drop, length-map, get_or-map}
 use lib.Seq.{drop_at}
-use lib.Dec.{eqb}
+use lib.Dec.{eqb, ltb}
 use borrow.Author.Tests.{le-ltb, ne_eqb}
 use Rattle.lists.specs.Lists.{tab, joined}
 use Rattle.lists.specs.Keep.{Each}
@@ -20,14 +20,14 @@ use Rattle.encode.specs.Header.{block_size}
 use Rattle.index.specs.Arrays.{Arrays}
 use Rattle.index.specs.State.{capacity}
 use Rattle.index.specs.Fit.{between}
-use Rattle.index.specs.Step.{first_of, rising}
+use Rattle.index.specs.Step.{first_of, when, rising}
 use Rattle.index.specs.declared.Form.{Form}
 use Rattle.index.specs.Form.{stages_at, second_at, keys_at, end_at}
 use Rattle.index.specs.File.{Entry, le_bytes, magic, stage_bytes, second_stages, key_entries, file_of}
 use Rattle.index.specs.Sound.{Shaped, block_length}
 use Rattle.index.specs.Read.{little_endian, form_in, dim_in, count_in, working_field, header_in, head_fault, over_limits, stage_from, KeyEntry, entry_from, well_keyed, key_from, mark_from, first_length, second_length, stages_in, second_in, table_in, entry_count, table_length, stated_end, entries_in, slot_in, slots_in, state_in, read_refusal}
 use Rattle.index.proofs.Read.{second_at_lem, table_at}
-use Rattle.layout.proofs.Length.{has_one, keyed-count, form, form-scale, form-keys, form-known, form-second, file-length, to_stages, to_second, to_keys, stages-begin, second-begins, keys-begin}
+use Rattle.layout.proofs.Length.{has_one, keyed-count, form, form-keys, form-known, form-second, file-length, to_stages, to_second, to_keys, stages-begin, second-begins, keys-begin}
 use Rattle.round_trip.specs.Back.{halved, halved_if, read_back, PatternLow, KeyLow, Holdable, Writable}
 use Rattle.round_trip.proofs.Fields.{le-back, form-back, count-back, dim-least, dim-most, dim-back, field-low, field_back, header-back}
 use Rattle.round_trip.proofs.Stages.{stage_at}
@@ -131,26 +131,26 @@ module _ (h : Header) (es : List Entry) (t : Writable h es) where
   -- ---- stages
 
   stage-back : (of : Entry → Stage) (rest : List ℕ) → Each (λ e. (length (of e).block ≡ w) × ((of e).scale < 2 ^ 32)) es → (i : ℕ) (d : Entry) → i < n →
-      stage_from f w n (stage_bytes (map of es) ++ rest) i ≡ halved (of (get_or es i d))
+      stage_from w n (stage_bytes (map of es) ++ rest) i ≡ halved (of (get_or es i d))
   stage-back of rest s i d l =
-      ap (λ (m : ℕ). stage_from f w m (stage_bytes (map of es) ++ rest) i) (sym (length-map es of))
+      ap (λ (m : ℕ). stage_from w m (stage_bytes (map of es) ++ rest) i) (sym (length-map es of))
       ∙ stage_at w (map of es) rest
       (each_map (λ g. length g.block ≡ w) of es (each_weaken (λ e. (length (of e).block ≡ w) × ((of e).scale < 2 ^ 32)) (λ e. length (of e).block ≡ w) es (λ e q. q.0) s))
       (each_map (λ g. narrowed g.scale < 256 ^ 2) of es
       (each_weaken (λ e. (length (of e).block ≡ w) × ((of e).scale < 2 ^ 32)) (λ e. narrowed (of e).scale < 256 ^ 2) es (λ e q. half-low (of e).scale q.1) s))
-      f (form-scale h es) i (of d) (rw (length-map es of) l)
+      i (of d) (rw (length-map es of) l)
       ∙ ap halved (get_or-map of es i d)
 
-  first_back : (i : ℕ) (d : Entry) → i < n → stage_from (form_in file) (block_size (header_in file)) (count_in file) (stages_in file) i ≡ halved (get_or es i d).code.first
+  first_back : (i : ℕ) (d : Entry) → i < n → stage_from (block_size (header_in file)) (count_in file) (stages_in file) i ≡ halved (get_or es i d).code.first
   first_back i d l =
-      (λ j. stage_from (ef j) (ew j) (en j) (stages-are j) i)
+      (λ j. stage_from (ew j) (en j) (stages-are j) i)
       ∙ stage-back (λ e. e.code.first) (stage_bytes (second_stages es) ++ table)
       (each_weaken (Holdable h) (λ e. (length e.code.first.block ≡ w) × (e.code.first.scale < 2 ^ 32)) es (λ e s. (s.shape.first, s.scale)) t.entries) i d l
 
   second_back : (i : ℕ) (d : Entry) → i < n →
-      cond (form_in file).second (some (stage_from (form_in file) (block_size (header_in file)) (count_in file) (second_in file) i)) none ≡ halved_if (get_or es i d).code.second
+      cond (form_in file).second (some (stage_from (block_size (header_in file)) (count_in file) (second_in file) i)) none ≡ halved_if (get_or es i d).code.second
   second_back i d l =
-      (λ j. cond (ef j).second (some (stage_from (ef j) (ew j) (en j) (seconds-are j) i)) none) ∙ ap (λ (b : Bool). cond b (some (stage_from f w n (stage_bytes (second_stages es) ++ table) i)) none) (form-second h es)
+      (λ j. cond (ef j).second (some (stage_from (ew j) (en j) (seconds-are j) i)) none) ∙ ap (λ (b : Bool). cond b (some (stage_from w n (stage_bytes (second_stages es) ++ table) i)) none) (form-second h es)
       ∙ go h.residual refl
     where
       shape : Shaped h (get_or es i d).code
@@ -160,10 +160,10 @@ module _ (h : Header) (es : List Entry) (t : Writable h es) where
       low e none p q = absurd (let z : ◌≡◌ {A = ℕ} 0 1 = cc in omega arith)
       low e (some g) p q = q
 
-      go : (b : Bool) → h.residual ≡ b → cond b (some (stage_from f w n (stage_bytes (second_stages es) ++ table) i)) none ≡ halved_if (get_or es i d).code.second
+      go : (b : Bool) → h.residual ≡ b → cond b (some (stage_from w n (stage_bytes (second_stages es) ++ table) i)) none ≡ halved_if (get_or es i d).code.second
       go true r =
           ap some
-          (ap (λ (gs : List Stage). stage_from f w n (stage_bytes gs ++ table) i) (all-seconds h r es shapes)
+          (ap (λ (gs : List Stage). stage_from w n (stage_bytes gs ++ table) i) (all-seconds h r es shapes)
           ∙ stage-back second_of table
           (each_weaken (Holdable h) (λ e. (length (second_of e).block ≡ w) × ((second_of e).scale < 2 ^ 32)) es
           (λ e s. ((has-second h r e s.shape).1, low e e.code.second (has-second h r e s.shape).0 s.scale2)) t.entries) i d l)
@@ -246,20 +246,29 @@ module _ (h : Header) (es : List Entry) (t : Writable h es) where
   keys-sound : well_keyed (count_in file) (map (λ e. e.slot) (entries_in file)) ≡ true
   keys-sound = ap₂ (λ (m : ℕ) (ps : List KeyEntry). well_keyed m (slots_of ps)) en entries-back ∙ well-back es
 
-  -- arrays with room for the entries take the file
-  pub accepted-back : (a : Arrays) → n ≤ capacity h a → read_refusal file a ≡ 0
+  -- the arrays' room alone decides
+  pub refusal-back : (a : Arrays) → read_refusal file a ≡ when (ltb (capacity h a) n) 20
   unfolding read_refusal first_of
-  accepted-back a space =
+  refusal-back a =
       let first = length-drop (stages_at (form_in file)) file in
       let second = length-drop (first_length file) (stages_in file) in
       let third = length-drop (second_length file) (second_in file) in
       rw (
         head-back,
         limits-back,
-        le-ltb (capacity (header_in file) a) (count_in file) (omega (arith, ap (λ (g : Header). capacity g a) eh, en, space)),
+        ap₂ (λ (g : Header) (m : ℕ). ltb (capacity g a) m) eh en,
         le-ltb (length (stages_in file)) (first_length file) (omega (arith, all_there, first)),
         ne_eqb (dim_in file) 0 (λ e. absurd (omega (arith, e, dim-is, dim-least h es t.header))),
         le-ltb (length (second_in file)) (second_length file) (omega (arith, all_there, first, second)),
         le-ltb (length (table_in file)) (table_length file) (omega (arith, all_there, first, second, third)),
         keys-sound,
       )
+      (go (ltb (capacity h a) n))
+    where
+      go : (b : Bool) → first_of (0 ∷ 0 ∷ when b 20 ∷ 0 ∷ 0 ∷ 0 ∷ 0 ∷ []) ≡ when b 20
+      go true = refl
+      go false = refl
+
+  -- arrays with room for the entries take the file
+  pub accepted-back : (a : Arrays) → n ≤ capacity h a → read_refusal file a ≡ 0
+  accepted-back a space = refusal-back a ∙ rw (le-ltb (capacity h a) n space)

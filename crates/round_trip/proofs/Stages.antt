@@ -14,7 +14,6 @@ use Rattle.digits.specs.Digits.{number}
 use Rattle.half.specs.Half.{narrowed, widened}
 use Rattle.codes.specs.Stage.{Stage}
 use Rattle.codes.specs.Slots.{block_at}
-use Rattle.index.specs.declared.Form.{Form}
 use Rattle.index.specs.File.{le_bytes, stage_bytes}
 use Rattle.index.specs.Read.{little_endian, stage_from}
 use Rattle.index.proofs.Blocks.{block-there, length-joined, block-over}
@@ -78,9 +77,6 @@ module _ (w : ℕ) (gs : List Stage) (rest : List ℕ) (sized : Each (λ g. leng
       ap (block_at w i) after-scales ∙ block_back w blocks rest blocks-sized i d.block (rw (length-map gs (λ (g : Stage). g.block)) l)
       ∙ get_or-map (λ (g : Stage). g.block) gs i d
 
-  -- of a version with halves
-  pub stage_at : (f : Form) → f.scale ≡ 2 → (i : ℕ) (d : Stage) → i < length gs → stage_from f w (length gs) (stage_bytes gs ++ rest) i ≡ halved (get_or gs i d)
+  pub stage_at : (i : ℕ) (d : Stage) → i < length gs → stage_from w (length gs) (stage_bytes gs ++ rest) i ≡ halved (get_or gs i d)
   unfolding stage_from
-  stage_at f e i d l =
-      (rw e refl)
-      ∙ (λ j. record { scale = widened (scale_at i d l j); block = block-at i d l j })
+  stage_at i d l j = record { scale = widened (scale_at i d l j); block = block-at i d l j }

@@ -6,7 +6,7 @@ use mathlib.Core.Option.{Option, none, some}
 use Prim.Native.Nat.{ℕ, zero, suc, ◌*◌, ◌≤◌}
 use native.Mathlib.Omega.{arith}
 use lib.ListN.{drop}
-use lib.Dec.{T, eqb}
+use lib.Dec.{T}
 use Rattle.lists.specs.Keep.{any, Each}
 use Rattle.lists.proofs.Keep.{either, each_keep, keep_all}
 use Rattle.lists.proofs.Front.{each_map, each-tab, tab-each}
@@ -20,7 +20,7 @@ use Rattle.index.specs.Arrays.{Arrays}
 use Rattle.index.specs.State.{Mark, Slot, State, live, header_of, capacity, state_of}
 use Rattle.index.specs.Step as Step
 use Rattle.index.specs.Step.{Cell, live_from, slot_holding, rising, compacted, Outcome, with_slots, guarded, appended, remarked, step}
-use Rattle.index.specs.Read.{little_endian, form_in, count_in, header_in, scale_from, stage_from, stages_in, second_in, slot_in, slots_in, state_in}
+use Rattle.index.specs.Read.{little_endian, form_in, count_in, header_in, stage_from, stages_in, second_in, slot_in, slots_in, state_in}
 use Rattle.index.specs.History.{HistoryOp, add, add_keyed, add_multi, relabel, remove, compact, score, search, search_keyed, key_of, contains, slot_of, file_length, write, op_at}
 use Rattle.index.proofs.Kept.{call-state}
 use Rattle.index.proofs.Refusals.{either_way}
@@ -181,23 +181,22 @@ stays_after r s (op ∷ h) e = stays_after (advance r op) (stays_on r s op e.0) 
 
 module _ (file : List ℕ) (n : NumberedFile file) where
   -- a scale that is read
-  read-half : (bytes : List ℕ) (i : ℕ) → Number (stage_from (form_in file) (block_size (header_in file)) (count_in file) bytes i).scale →
-      OfHalf (stage_from (form_in file) (block_size (header_in file)) (count_in file) bytes i).scale
+  read-half : (bytes : List ℕ) (i : ℕ) → Number (stage_from (block_size (header_in file)) (count_in file) bytes i).scale →
+      OfHalf (stage_from (block_size (header_in file)) (count_in file) bytes i).scale
   unfolding stage_from
   read-half bytes i k =
-      let x : ℕ = little_endian (form_in file).scale (drop (i * (form_in file).scale) bytes) in
-      let e : scale_from (form_in file) x ≡ widened x = ap (λ (w : ℕ). cond (eqb w 4) x (widened x)) n.halves in
-      record { half = x; number = λ q. k (subst (NaN 23 8) (sym e) ((Widen.meets x (widened x) refl).nan q)); reads = e }
+      let x : ℕ = little_endian 2 (drop (i * 2) bytes) in
+      record { half = x; number = λ q. k ((Widen.meets x (widened x) refl).nan q); reads = refl }
 
   read-halves : Halves (told_in file).living
   unfolding slot_in
   read-halves =
       each-tab (λ l. Scales OfHalf l.code) (filed_arrival file) (count_in file)
-      (λ i l. let k = tab-each (λ l. Scales Number l.code) (filed_arrival file) (count_in file) n.numbers i l in
+      (λ i l. let k = tab-each (λ l. Scales Number l.code) (filed_arrival file) (count_in file) n i l in
       (read-half (stages_in file) i k.0, second i (form_in file).second k.1))
     where
-      second : (i : ℕ) (b : Bool) → ScaleIf Number (cond b (some (stage_from (form_in file) (block_size (header_in file)) (count_in file) (second_in file) i)) none) →
-          ScaleIf OfHalf (cond b (some (stage_from (form_in file) (block_size (header_in file)) (count_in file) (second_in file) i)) none)
+      second : (i : ℕ) (b : Bool) → ScaleIf Number (cond b (some (stage_from (block_size (header_in file)) (count_in file) (second_in file) i)) none) →
+          ScaleIf OfHalf (cond b (some (stage_from (block_size (header_in file)) (count_in file) (second_in file) i)) none)
       second i true k = read-half (second_in file) i k
       second i false k = tt
 

@@ -12,7 +12,6 @@ use Rattle.index.specs.State.{State, live, header_of, capacity, state_of}
 use Rattle.index.specs.Step as Step
 use Rattle.index.specs.Step.{Op, bytes, rising}
 use Rattle.index.specs.Call.{call}
-use Rattle.index.specs.Read.{form_in}
 use Rattle.index.specs.History.{HistoryOp, add, add_keyed, add_multi, relabel, remove, compact, score, search, search_keyed, key_of, contains, slot_of, file_length, write}
 use Rattle.histories.specs.Histories.{History, accepted, Run, advance, after, told_in}
 use Rattle.histories.specs.Houses.{House, opened, answers_to}
@@ -51,10 +50,9 @@ SavedAsItIs = (s : State) → Storable s → saved s ≡ s
 
 -- ---- a house that has read a file
 
--- the scales of the file are halves, and none is a NaN
-pub record NumberedFile (file : List ℕ) : Type 0 where
-  pub halves : (form_in file).scale ≡ 2
-  pub numbers : Each (λ l. Scales Number l.code) (told_in file).living
+-- no scale of the file is a NaN
+abbrev pub NumberedFile : (file : List ℕ) → Type 0
+NumberedFile file = Each (λ l. Scales Number l.code) (told_in file).living
 
 abbrev pub run_value : Run → State
 run_value r = state_of r.index r.arrays

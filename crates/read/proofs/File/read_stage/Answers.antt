@@ -6,10 +6,9 @@ use Rattle.read.proofs.File.read_stage.Goals as goal
 pub returns-clause-codes_after : goal.returns-clause-codes_after
 returns-clause-codes_after c =
     let a = c.args in
-    stage-copied _ _ _ _ c.requires.bytes_fit _ _ (c.copy_from_slice.ensures.after ∙ ap (take (a.n * a.self.now.block)) c.after-blocks.ensures)
+    stage-copied _ _ _ c.requires.bytes_fit _ _ (c.copy_from_slice.ensures.after ∙ ap (take (a.n * a.self.now.block)) c.after-blocks.ensures)
 
 pub returns-clause-scales_after : goal.returns-clause-scales_after
 returns-clause-scales_after c =
     let a = c.args in
-    let f = a.self.now in
-    c.read_scales.ensures ∙ ap (λ (ys : List ℕ). over ys a.scales.now) (sym (stage-scales f.form f.block a.n a.bytes.now))
+    c.read_scales.ensures ∙ ap (λ (ys : List ℕ). over ys a.scales.now) (sym (stage-scales a.self.now.block a.n a.bytes.now))

@@ -1,0 +1,2 @@
+-- What the program leaves.
+pub mod Told

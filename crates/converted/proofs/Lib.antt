@@ -1,0 +1,3 @@
+-- Laws of converted files.
+mod Written
+mod Reading

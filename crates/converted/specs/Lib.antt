@@ -1,0 +1,2 @@
+-- What is read of a converted file.
+pub mod Reading

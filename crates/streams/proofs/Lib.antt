@@ -1,0 +1,3 @@
+-- Laws that the proofs of several functions cite, and those of the crates above.
+pub mod Pieces
+pub mod Telling

@@ -1,0 +1,2 @@
+-- What the contracts of this crate cite.
+pub mod Streams
