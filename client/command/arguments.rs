@@ -88,6 +88,11 @@ fn number(name: &str, text: &OsStr) -> Done<u64> {
     whole(text.as_encoded_bytes()).ok_or_else(|| Fault::Usage(format!("{name}: {} is no number", quoted(text.as_encoded_bytes()))))
 }
 
+fn year(name: &str, text: &OsStr) -> Done<u16> {
+    let year = whole(text.as_encoded_bytes()).and_then(|number| u16::try_from(number).ok());
+    year.ok_or_else(|| Fault::Usage(format!("{name}: {} is no year (0 to {})", quoted(text.as_encoded_bytes()), u16::MAX)))
+}
+
 // ---- asking
 
 impl Arguments {
@@ -119,6 +124,10 @@ impl Arguments {
     pub fn count(&self, option: &str) -> Done<Option<usize>> {
         // No count of anything reaches past the machine's words, so the largest one stands for all beyond.
         Ok(self.number(option)?.map(|number| usize::try_from(number).unwrap_or(usize::MAX)))
+    }
+
+    pub fn year(&self, option: &str) -> Done<Option<u16>> {
+        self.value(option).map(|text| year(option, text)).transpose()
     }
 
     /// The one of `choices` that an option names; the first without the option.

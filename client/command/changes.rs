@@ -39,9 +39,18 @@ fn made(arguments: &Arguments, path: &Path) -> Done<Index> {
 // ---- a change
 
 pub enum Change {
-    Add { vectors: Vectors, multi: bool },
+    Add { vectors: Vectors, adding: Adding },
     Relabel { old: u64, new: u64 },
-    Remove { key: u64, slot: Option<usize> },
+    Remove { key: u64, slot: Option<usize>, present: u16 },
+}
+
+/// How rows are added.
+#[derive(Clone, Copy)]
+pub struct Adding {
+    /// The retention year that their slots get.
+    year: u16,
+    /// The present year, where the first slot of a key is overwritten; none where a key gets one more slot.
+    overwriting: Option<u16>,
 }
 
 /// How a change is asked for. The first word of its form is the file; a script names it once for all lines.
@@ -53,12 +62,12 @@ pub struct Kind {
 
 pub const ADD: Kind = Kind {
     name: "add",
-    form: Form { words: &["FILE", "VECTORS"], more: false, flags: &["--keyed", "--multi", "--header"], values: &[] },
+    form: Form { words: &["FILE", "VECTORS"], more: false, flags: &["--keyed", "--multi", "--header"], values: &["--year", "--present"] },
     read: |arguments| {
         arguments.not_both("--keyed", "--multi")?;
-        let multi = arguments.has("--multi");
-        let reading = Reading { keyed: multi || arguments.has("--keyed"), header: arguments.has("--header") };
-        Ok(Change::Add { vectors: Vectors::read(arguments.path("VECTORS")?, reading)?, multi })
+        let adding = Adding { year: year(arguments)?, overwriting: overwriting(arguments)? };
+        let reading = Reading { keyed: arguments.has("--keyed") || arguments.has("--multi"), header: arguments.has("--header") };
+        Ok(Change::Add { vectors: Vectors::read(arguments.path("VECTORS")?, reading)?, adding })
     },
 };
 
@@ -70,9 +79,36 @@ pub const RELABEL: Kind = Kind {
 
 pub const REMOVE: Kind = Kind {
     name: "remove",
-    form: Form { words: &["FILE", "KEY"], more: false, flags: &[], values: &["--slot"] },
-    read: |arguments| Ok(Change::Remove { key: arguments.key("KEY")?, slot: arguments.count("--slot")? }),
+    form: Form { words: &["FILE", "KEY"], more: false, flags: &[], values: &["--slot", "--present"] },
+    read: |arguments| Ok(Change::Remove { key: arguments.key("KEY")?, slot: arguments.count("--slot")?, present: present(arguments)? }),
 };
+
+/// The year that vectors are added with. No year would do for all: a wrong 0 can't be taken back, a wrong 1 keeps nothing.
+fn year(arguments: &Arguments) -> Done<u16> {
+    arguments.year("--year")?.ok_or_else(|| {
+        Fault::Usage(String::from(
+            "--year is missing: the first year in which the slots may go, 1 if they may go at once, 0 if never. \
+             It has no default: 0 can never be taken back, and 1 keeps nothing",
+        ))
+    })
+}
+
+/// The present year. A clock's would be another one on another machine, or on another day.
+fn present(arguments: &Arguments) -> Done<u16> {
+    arguments.year("--present")?.ok_or_else(|| {
+        Fault::Usage(String::from("--present is missing: the present year, by which a slot may go or is to be kept. It has no default: no clock is asked"))
+    })
+}
+
+fn overwriting(arguments: &Arguments) -> Done<Option<u16>> {
+    if arguments.has("--keyed") {
+        return present(arguments).map(Some);
+    }
+    if arguments.has("--present") {
+        return Err(Fault::Usage(String::from("--present is for --keyed: without it no slot is overwritten")));
+    }
+    Ok(None)
+}
 
 /// What a change did.
 #[derive(Default)]
@@ -87,29 +123,29 @@ impl Change {
     /// Makes the change, or all of it is left undone once the fault ends the command: nothing is saved then. `file` is for messages.
     pub fn make(&self, index: &mut Index, file: &Path) -> Done<Outcome> {
         match self {
-            Change::Add { vectors, multi } => add(index, vectors, *multi),
+            Change::Add { vectors, adding } => add(index, vectors, *adding),
             Change::Relabel { old, new } => relabel(index, *old, *new, file),
-            Change::Remove { key, slot } => remove(index, *key, *slot, file),
+            Change::Remove { key, slot, present } => remove(index, *key, *slot, *present, file),
         }
     }
 }
 
-fn add(index: &mut Index, vectors: &Vectors, multi: bool) -> Done<Outcome> {
+fn add(index: &mut Index, vectors: &Vectors, adding: Adding) -> Done<Outcome> {
     let count = vectors.count();
     let mut progress = Progress::new("vectors added", Some(count));
     index.reserve(index.slots().saturating_add(count)).map_err(Fault::on(format_args!("{count} vectors")))?;
     for (row, number) in vectors.rows().zip(1..) {
-        add_row(index, &row, multi).map_err(Fault::on(&row.place))?;
+        add_row(index, &row, adding).map_err(Fault::on(&row.place))?;
         progress.reached(number);
     }
     Ok(Outcome { count, renumbered: false })
 }
 
-fn add_row(index: &mut Index, row: &Row<'_>, multi: bool) -> Result<u32, Error> {
-    match row.key {
-        Some(key) if multi => index.add_keyed_multi(key, row.entries),
-        Some(key) => index.add_keyed(key, row.entries),
-        None => index.add(row.entries),
+fn add_row(index: &mut Index, row: &Row<'_>, Adding { year, overwriting }: Adding) -> Result<u32, Error> {
+    match (row.key, overwriting) {
+        (Some(key), Some(present)) => index.add_keyed(key, row.entries, year, present),
+        (Some(key), None) => index.add_keyed_multi(key, row.entries, year),
+        (None, _) => index.add(row.entries, year),
     }
 }
 
@@ -124,7 +160,7 @@ fn relabel(index: &mut Index, old: u64, new: u64, file: &Path) -> Done<Outcome> 
 
 /// Removes slots and numbers the rest anew at once: held order isn't stored, so a script that went on without would leave other bytes than its lines as
 /// commands, each of which reads a file.
-fn remove(index: &mut Index, key: u64, slot: Option<usize>, file: &Path) -> Done<Outcome> {
+fn remove(index: &mut Index, key: u64, slot: Option<usize>, present: u16, file: &Path) -> Done<Outcome> {
     let on_file = Fault::on(file.display());
     let (slots, live) = (index.slots(), index.live());
     let first = match slot {
@@ -132,8 +168,8 @@ fn remove(index: &mut Index, key: u64, slot: Option<usize>, file: &Path) -> Done
         None => index.slot_at(key, 0).map_err(&on_file)?.map(|slot| slot as usize),
     };
     let removed = match slot {
-        Some(slot) => index.remove_keyed_at(key, slot),
-        None => index.remove_keyed(key),
+        Some(slot) => index.remove_keyed_at(key, slot, present),
+        None => index.remove_keyed(key, present),
     };
     if !removed.map_err(&on_file)? {
         let why = slot.map_or(format!("no slot has key {key}"), |slot| format!("slot {slot} is not key {key}'s"));

@@ -4,9 +4,9 @@ pub const ALL: &str = "\
 vecq: an index of vectors in a file, and ranked lists of those that a query resembles
 
     vecq new FILE --dim N            makes FILE, an index of vectors of N entries
-    vecq add FILE VECTORS            adds vectors, all or none
+    vecq add FILE VECTORS --year Y   adds vectors, all or none
     vecq relabel FILE OLD NEW        gives the slots of one key to another
-    vecq remove FILE KEY             removes the slots of a key, or one of them
+    vecq remove FILE KEY --present Y       removes the slots of a key, or one of them
     vecq edit FILE <SCRIPT           makes many changes and saves once
     vecq find FILE QUERIES           lists what each query resembles
     vecq file FILE QUERIES -k N -o LIST    files the list that two houses compare
@@ -25,12 +25,16 @@ VECTORS and QUERIES are NAME.fvecs (for each vector the count of its entries and
 or text: a vector a line, entries parted by blanks, tabs, commas or semicolons. With --keyed or --multi the first field is the key, - for none.
 # begins a comment, --header skips the first line, - is standard input. A key is a number from 0 to 18446744073709551615.
 
+Each slot has a retention year: 0 keeps it for good, which can never be taken back; 1 is no duty; any other is the first year in which it may go. A command
+that would remove or overwrite a slot that is to be kept is refused (21) and changes nothing. The present year is what --present says: no clock is asked, so
+the same words do the same on every machine. A year is a number from 0 to 65535.
+
 Data goes to standard output, all else to standard error. Status: 0 done or yes, 1 no or differs, 2 wrong words or unreadable input, 3 refused by the
 library (with the number of the refusal), 4 the system failed. A command that isn't done leaves FILE as it was.
 
 Example, the games that a new one resembles:
     vecq new games.vecq --dim 4
-    vecq add games.vecq games.csv --keyed
+    vecq add games.vecq games.csv --year 2036 --keyed --present 2026
     vecq find games.vecq new.csv -k 3
 ";
 
@@ -52,8 +56,10 @@ pub const INFO: &str = "\
 vecq info FILE [--slots]
 
 Prints a line `name<tab>value` each for: version, dim, working_dim, seed, bits, residual, slots, keyed (slots with a key), keys (different ones), bytes,
-sha256 (as sha256sum tells it).
-    --slots    then an empty line and for each slot: slot, key or -, scale as a half in hexadecimal, parted by tabs
+sha256 (as sha256sum tells it). The version that a file is written as is 259 at 4 bits, 260 if residual, 261 at 5 and 6 bits; 262, 263, 264 where a slot has
+another year than 1.
+    --slots    then an empty line, a line of names, and for each slot: slot, key or -, scale as a half in hexadecimal, retention year (1 in a file that has
+               none), parted by tabs
 
 Example:
     vecq info games.vecq --slots
@@ -122,48 +128,55 @@ Example:
 ";
 
 pub const ADD: &str = "\
-vecq add FILE VECTORS [--keyed | --multi] [--header]
+vecq add FILE VECTORS --year Y [--keyed --present Y | --multi] [--header]
 
 Adds all vectors of VECTORS, or none if one can't be added. Prints the counts of added rows, live slots and bytes.
-    --keyed     the first field is a key, - for none. A key that has slots already: its first one is overwritten
-    --multi     the first field is a key, - for none. A key that has slots already gets one more
-    --header    skips the first line of VECTORS
+    --year Y       the retention year of the slots: the first year in which they may be removed or overwritten. 1: no duty, at any time. 0: never; nothing
+                   takes a 0 back. It has no default
+    --keyed        the first field is a key, - for none. A key that has slots already: its first one is overwritten and gets the year of --year, unless it is
+                   to be kept still
+    --present Y    with --keyed, the present year, by which a slot may be overwritten or not. It has no default: no clock is asked
+    --multi        the first field is a key, - for none. A key that has slots already gets one more
+    --header       skips the first line of VECTORS
 
-Example, with lines such as 1001,0.5,1.25,-3,0:
-    vecq add games.vecq games.csv --keyed
+Example, with lines such as 1001,0.5,1.25,-3,0, which are to be kept for ten years from 2026:
+    vecq add games.vecq games.csv --year 2036 --keyed --present 2026
 ";
 
 pub const RELABEL: &str = "\
 vecq relabel FILE OLD NEW
 
-Gives all slots of key OLD to key NEW. The answer is no, status 1, where OLD has no slot, or NEW is another key and has one.
+Gives all slots of key OLD to key NEW, whatever their years, which stay. The answer is no, status 1, where OLD has no slot, or NEW is another key and has one.
 
 Example:
     vecq relabel games.vecq 1001 2001
 ";
 
 pub const REMOVE: &str = "\
-vecq remove FILE KEY [--slot N]
+vecq remove FILE KEY --present Y [--slot N]
 
 Removes all slots of the key, or the one that is named. Prints the counts of removed slots, live slots and bytes. A file has live slots only, numbered from
 0, so slots after a removed one have other numbers afterwards; standard error says so. The answer is no, status 1, where the key has no such slot.
+    --present Y    the present year: a slot may go whose retention year is 1, or above 1 and not past Y. Where one of the slots is to be kept, none is removed
+                   (refused 21); `vecq info FILE --slots` shows their years. It has no default: no clock is asked
+    --slot N       this slot of the key alone
 
 Example:
-    vecq remove games.vecq 1001
+    vecq remove games.vecq 1001 --present 2036
 ";
 
 pub const EDIT: &str = "\
 vecq edit FILE <SCRIPT
 
 Makes the changes of a script, a line each, and saves once at the end. The first line that isn't done ends it, and nothing is saved. Lines:
-    add VECTORS [--keyed | --multi] [--header]
+    add VECTORS --year Y [--keyed --present Y | --multi] [--header]
     relabel OLD NEW
-    remove KEY [--slot N]
+    remove KEY --present Y [--slot N]
 Empty lines and those that begin with # say nothing. Words are parted by blanks, so a path in a script has none. Slots are numbered anew after each removal,
 as if each line were a command of its own; the file is the same then, to the byte. Prints the counts of lines, live slots and bytes.
 
 Example:
-    printf 'remove 1001\\nadd more.csv --keyed\\n' | vecq edit games.vecq
+    printf 'remove 1001 --present 2036\\nadd more.csv --year 2046 --keyed --present 2036\\n' | vecq edit games.vecq
 ";
 
 pub const SAME: &str = "\

@@ -44,12 +44,12 @@ fn facts(stored: &Stored, version: u16, held: &[HeldSlot]) -> String {
     facts.iter().map(|(name, value)| format!("{name}\t{value}\n")).collect()
 }
 
-/// An empty line, and a line for each slot: its number, key and scale.
+/// An empty line, the names of the columns, and a line for each slot.
 fn slot_lines(index: &Index) -> String {
-    let mut text = String::from("\n");
-    for (slot, (key, half)) in index.keys().zip(index.halves()).enumerate() {
+    let mut text = String::from("\nslot\tkey\thalf\tyear\n");
+    for (slot, ((key, half), year)) in index.keys().zip(index.halves()).zip(index.years()).enumerate() {
         // Writing to a string can't fail.
-        let _ = writeln!(text, "{slot}\t{}\t{half:04X}", or_dash(key));
+        let _ = writeln!(text, "{slot}\t{}\t{half:04X}\t{year}", or_dash(key));
     }
     text
 }

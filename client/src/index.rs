@@ -98,22 +98,23 @@ impl Index {
     }
 }
 
-// ---- changes
+// ---- changes: a slot's year is 0 for good, 1 for no duty, or the first year in which it may be removed or overwritten. The present year is what the caller
+// says: neither the library nor this crate asks a clock.
 
 impl Index {
     /// Adds a vector without a key. Answers its slot, as the two adds below do.
-    pub fn add(&mut self, vector: &[f32]) -> Result<u32, Error> {
-        self.append(|raw| raw.add(vector))
+    pub fn add(&mut self, vector: &[f32], year: u16) -> Result<u32, Error> {
+        self.append(|raw| raw.add(vector, year))
     }
 
-    /// Overwrites the key's first held slot, or adds one.
-    pub fn add_keyed(&mut self, key: u64, vector: &[f32]) -> Result<u32, Error> {
-        self.append(|raw| raw.add_keyed(key, vector))
+    /// Overwrites the key's first held slot, its year too, or adds one. 21 where that slot is to be kept.
+    pub fn add_keyed(&mut self, key: u64, vector: &[f32], year: u16, present: u16) -> Result<u32, Error> {
+        self.append(|raw| raw.add_keyed(key, vector, year, present))
     }
 
     /// Adds a slot to those of the key.
-    pub fn add_keyed_multi(&mut self, key: u64, vector: &[f32]) -> Result<u32, Error> {
-        self.append(|raw| raw.add_keyed_multi(key, vector))
+    pub fn add_keyed_multi(&mut self, key: u64, vector: &[f32], year: u16) -> Result<u32, Error> {
+        self.append(|raw| raw.add_keyed_multi(key, vector, year))
     }
 
     /// Gives all slots of `old` to `new`; no where `old` has none, or `new` is another key and has one.
@@ -121,14 +122,14 @@ impl Index {
         Ok(self.raw.relabel(old, new)?)
     }
 
-    /// Removes all slots of the key; no where it has none.
-    pub fn remove_keyed(&mut self, key: u64) -> Result<bool, Error> {
-        Ok(self.raw.remove_keyed(key)?)
+    /// Removes all slots of the key; no where it has none, and 21, with none removed, where one of them is to be kept.
+    pub fn remove_keyed(&mut self, key: u64, present: u16) -> Result<bool, Error> {
+        Ok(self.raw.remove_keyed(key, present)?)
     }
 
-    /// Removes one slot of the key; no where the slot isn't the key's.
-    pub fn remove_keyed_at(&mut self, key: u64, slot: usize) -> Result<bool, Error> {
-        Ok(self.raw.remove_keyed_at(key, slot)?)
+    /// Removes one slot of the key; no where the slot isn't the key's, and 21 where it is to be kept.
+    pub fn remove_keyed_at(&mut self, key: u64, slot: usize, present: u16) -> Result<bool, Error> {
+        Ok(self.raw.remove_keyed_at(key, slot, present)?)
     }
 
     /// Numbers the live slots anew, from 0 in their order, so that the places of dead ones serve again.
@@ -168,6 +169,12 @@ impl Index {
         held.extend(slots.filter_map(|((key, position), slot)| Some(HeldSlot { key: key?, position: *position, slot })));
         held.sort_unstable();
         Ok(held)
+    }
+
+    /// The retention year of each slot in use; that of a dead slot says nothing. No call asks for it: the library's contract says that it is the word at the
+    /// slot's place.
+    pub fn years(&self) -> impl Iterator<Item = u16> + '_ {
+        self.raw.arrays.years.iter().take(self.slots()).copied()
     }
 
     /// The scale of each slot in use as a half, the first one in a residual index: the half that is read as this scale, else the nearest one.

@@ -40,7 +40,7 @@ pub fn hold(arrays: &mut Arrays, slots: usize, size: &SlotSize) -> Result<(), Er
         lengthen(&mut arrays.codes2, bytes)?;
         lengthen(&mut arrays.scales2, slots)?;
     }
-    Ok(())
+    lengthen(&mut arrays.years, slots)
 }
 
 fn lengthen<T: Clone + Default>(array: &mut Vec<T>, length: usize) -> Result<(), Error> {

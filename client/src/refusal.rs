@@ -1,7 +1,7 @@
 //! The library's refusals.
 use std::fmt;
 
-/// A call that was turned down, by document 01's number.
+/// A call that was turned down, by the number of documents 01 and 02.
 #[derive(Clone, Copy, Debug, PartialEq, Eq)]
 pub struct Refusal(pub u8);
 
@@ -28,6 +28,7 @@ impl Refusal {
             18 => "file's width is not 4, 5 or 6",
             19 => "file's key entries name a slot twice or past the count",
             20 => "file is over the limits: dim 4096, 65536 slots",
+            21 => "a slot of the key is to be kept: for good, or until its retention year",
             _ => "no words for this number",
         }
     }

@@ -1,9 +1,9 @@
-//! The exported calls of the proved library, over a record of eight words and eight arrays: the only unsafe code of the crate, and the one place that
+//! The exported calls of the proved library, over a record of eight words and nine arrays: the only unsafe code of the crate, and the one place that
 //! declares them. Every export is proved for all lengths and contents of what it is lent. What C leaves to its caller is that each pointer and length
 //! are a slice's, that a slice which is written overlaps no other, and that a bool is 0 or 1; references give all three.
 
 /// The set of signatures that is declared here. The library states its own (`abi`): a stale declaration of twenty arguments would still link.
-pub const ABI: u64 = 2;
+pub const ABI: u64 = 3;
 
 #[derive(Clone, Default, PartialEq)]
 pub struct Arrays {
@@ -16,6 +16,8 @@ pub struct Arrays {
     pub alive: Vec<u64>,
     pub codes2: Vec<u8>,
     pub scales2: Vec<u32>,
+    /// retention years: 0 for good, 1 no duty, any other the first year in which the slot may go
+    pub years: Vec<u16>,
 }
 
 // Places of the record's words.
@@ -30,7 +32,7 @@ pub const CASCADE: usize = 7;
 
 pub type Record = [u64; 8];
 
-/// Declares calls by what comes before the eight arrays and after them. A slice is a pointer and a length.
+/// Declares calls by what comes before the nine arrays and after them. A slice is a pointer and a length.
 macro_rules! declare {
     ($($name:ident ($($before:ty),*) ($($after:ty),*);)*) => {
         extern "C" {
@@ -38,6 +40,7 @@ macro_rules! declare {
                 $(_: $before,)*
                 _: *const u8, _: usize, _: *const u32, _: usize, _: *const u64, _: usize, _: *const bool, _: usize,
                 _: *const u32, _: usize, _: *const u64, _: usize, _: *const u8, _: usize, _: *const u32, _: usize,
+                _: *const u16, _: usize,
                 $(_: $after,)*
             ) -> u8;)*
         }
@@ -50,12 +53,12 @@ declare! {
     vecq_raw_with_residual (*mut u64, usize) (usize, u64);
     vecq_raw_set_bits (*mut u64, usize) (u8);
     vecq_raw_enable_cascade (*mut u64, usize) ();
-    vecq_raw_add (*mut u64, usize, *mut u64, usize) (*const f32, usize);
-    vecq_raw_add_keyed (*mut u64, usize, *mut u64, usize) (u64, *const f32, usize);
-    vecq_raw_add_keyed_multi (*mut u64, usize, *mut u64, usize) (u64, *const f32, usize);
+    vecq_raw_add (*mut u64, usize, *mut u64, usize) (*const f32, usize, u16);
+    vecq_raw_add_keyed (*mut u64, usize, *mut u64, usize) (u64, *const f32, usize, u16, u16);
+    vecq_raw_add_keyed_multi (*mut u64, usize, *mut u64, usize) (u64, *const f32, usize, u16);
     vecq_raw_relabel (*mut u64, usize, *mut u64, usize) (u64, u64);
-    vecq_raw_remove_keyed (*mut u64, usize, *mut u64, usize) (u64);
-    vecq_raw_remove_keyed_at (*mut u64, usize, *mut u64, usize) (u64, usize);
+    vecq_raw_remove_keyed (*mut u64, usize, *mut u64, usize) (u64, u16);
+    vecq_raw_remove_keyed_at (*mut u64, usize, *mut u64, usize) (u64, usize, u16);
     vecq_raw_compact (*mut u64, usize) ();
     vecq_raw_key_of (*const u64, usize, *mut u64, usize) (usize);
     vecq_raw_contains_key (*const u64, usize, *mut u64, usize) (u64);
@@ -89,6 +92,7 @@ macro_rules! call {
                 a.codes.$lend(), a.codes.len(), a.scales.$lend(), a.scales.len(), a.keys.$lend(), a.keys.len(),
                 a.keyed.$lend(), a.keyed.len(), a.held.$lend(), a.held.len(), a.alive.$lend(), a.alive.len(),
                 a.codes2.$lend(), a.codes2.len(), a.scales2.$lend(), a.scales2.len(),
+                a.years.$lend(), a.years.len(),
                 $($after,)*
             )
         }
@@ -214,28 +218,28 @@ impl Raw {
         change!(self, vecq_raw_enable_cascade())
     }
 
-    pub fn add(&mut self, vector: &[f32]) -> Answer<usize> {
-        change!(self, vecq_raw_add(vector.as_ptr(), vector.len()) -> words).map(amount)
+    pub fn add(&mut self, vector: &[f32], year: u16) -> Answer<usize> {
+        change!(self, vecq_raw_add(vector.as_ptr(), vector.len(), year) -> words).map(amount)
     }
 
-    pub fn add_keyed(&mut self, key: u64, vector: &[f32]) -> Answer<usize> {
-        change!(self, vecq_raw_add_keyed(key, vector.as_ptr(), vector.len()) -> words).map(amount)
+    pub fn add_keyed(&mut self, key: u64, vector: &[f32], year: u16, present: u16) -> Answer<usize> {
+        change!(self, vecq_raw_add_keyed(key, vector.as_ptr(), vector.len(), year, present) -> words).map(amount)
     }
 
-    pub fn add_keyed_multi(&mut self, key: u64, vector: &[f32]) -> Answer<usize> {
-        change!(self, vecq_raw_add_keyed_multi(key, vector.as_ptr(), vector.len()) -> words).map(amount)
+    pub fn add_keyed_multi(&mut self, key: u64, vector: &[f32], year: u16) -> Answer<usize> {
+        change!(self, vecq_raw_add_keyed_multi(key, vector.as_ptr(), vector.len(), year) -> words).map(amount)
     }
 
     pub fn relabel(&mut self, old: u64, new: u64) -> Answer<bool> {
         change!(self, vecq_raw_relabel(old, new) -> words).map(flag)
     }
 
-    pub fn remove_keyed(&mut self, key: u64) -> Answer<bool> {
-        change!(self, vecq_raw_remove_keyed(key) -> words).map(flag)
+    pub fn remove_keyed(&mut self, key: u64, present: u16) -> Answer<bool> {
+        change!(self, vecq_raw_remove_keyed(key, present) -> words).map(flag)
     }
 
-    pub fn remove_keyed_at(&mut self, key: u64, slot: usize) -> Answer<bool> {
-        change!(self, vecq_raw_remove_keyed_at(key, slot) -> words).map(flag)
+    pub fn remove_keyed_at(&mut self, key: u64, slot: usize, present: u16) -> Answer<bool> {
+        change!(self, vecq_raw_remove_keyed_at(key, slot, present) -> words).map(flag)
     }
 
     pub fn compact(&mut self) -> Answer<()> {

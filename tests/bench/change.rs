@@ -17,9 +17,9 @@ fn add_ours(ours: &mut Raw, kind: Keys, vectors: &[Vec<f32>]) -> f64 {
     let (seconds, ()) = timed_once(|| {
         for (i, vector) in vectors.iter().enumerate() {
             let added = match kind {
-                Keys::None => ours.add(vector),
-                Keys::Rising | Keys::Random | Keys::Apart => ours.add_keyed(kind.of(n + i), vector),
-                Keys::One | Keys::Shuffled | Keys::Top => ours.add_keyed_multi(kind.of(n + i), vector),
+                Keys::None => ours.add(vector, data::YEAR),
+                Keys::Rising | Keys::Random | Keys::Apart => ours.add_keyed(kind.of(n + i), vector, data::YEAR, data::YEAR),
+                Keys::One | Keys::Shuffled | Keys::Top => ours.add_keyed_multi(kind.of(n + i), vector, data::YEAR),
             };
             same::equal("a slot that was added", added, Ok(n + i));
         }

@@ -5,6 +5,9 @@ use std::collections::HashMap;
 
 pub const SEED: u64 = 42;
 
+/// No duty: the Rust has no years, and this one is that of every slot there.
+pub const YEAR: u16 = 1;
+
 #[derive(Clone, Copy, PartialEq, Eq)]
 pub enum Width {
     Four,
@@ -125,7 +128,7 @@ pub fn first_marks(n: usize, words: usize) -> Vec<u64> {
     alive
 }
 
-/// An index of `n` live slots without keys, in arrays with places for `room`.
+/// An index of `n` live slots without keys or duties (year 1, as the Rust's), in arrays with places for `room`.
 pub fn filled(dim: usize, width: Width, n: usize, room: usize) -> Raw {
     let mut random = Random::new((dim * 31 + n) as u64 * 8 + width.name().len() as u64 + width.bits() as u64);
     let bits = width.bits();
@@ -140,6 +143,7 @@ pub fn filled(dim: usize, width: Width, n: usize, room: usize) -> Raw {
         alive: first_marks(n, room.div_ceil(MARKS)),
         codes2: bytes(&mut random, second * block),
         scales2: scales(&mut random, dim * 100, second),
+        years: vec![YEAR; room],
     };
     let record: Record = [dim as u64, dim as u64, SEED, bits as u64, width.is_residual() as u64, n as u64, n as u64, 0];
     Raw { record, arrays }

@@ -120,9 +120,9 @@ fn adding(stacks: &mut Stacks) {
             for kind in [Keys::None, Keys::Random] {
                 let mut ours = index(dim, width, n, n + 3, kind);
                 let case = format!("width {}, {} slots of {} entries, keys {}", width.name(), count(n), count(dim), kind.name());
-                stacks.of("add", &case, || ours.add(&vector));
-                stacks.of("add_keyed", &case, || ours.add_keyed(1, &vector));
-                stacks.of("add_keyed_multi", &case, || ours.add_keyed_multi(1, &vector));
+                stacks.of("add", &case, || ours.add(&vector, data::YEAR));
+                stacks.of("add_keyed", &case, || ours.add_keyed(1, &vector, data::YEAR, data::YEAR));
+                stacks.of("add_keyed_multi", &case, || ours.add_keyed_multi(1, &vector, data::YEAR));
             }
         }
     }
@@ -161,8 +161,8 @@ fn keys(stacks: &mut Stacks) {
         stacks.of("score", &case, || ours.score(SLOTS / 2, &query[..256]));
         stacks.of("file_length", &case, || ours.file_length());
         stacks.of("relabel", &case, || ours.relabel(key, key ^ 1 << 63));
-        stacks.of("remove_keyed_at", &case, || ours.remove_keyed_at(key ^ 1 << 63, SLOTS / 2));
-        stacks.of("remove_keyed", &case, || ours.remove_keyed(key));
+        stacks.of("remove_keyed_at", &case, || ours.remove_keyed_at(key ^ 1 << 63, SLOTS / 2, data::YEAR));
+        stacks.of("remove_keyed", &case, || ours.remove_keyed(key, data::YEAR));
     }
 }
 

@@ -13,7 +13,7 @@ fn patterns(floats: &[f32]) -> Vec<u32> {
     floats.iter().map(|x| x.to_bits()).collect()
 }
 
-/// The Rust's index that a record and arrays stand for, where they fit.
+/// The Rust's index that a record and arrays stand for, where they fit. It has no years.
 pub fn index_of(ours: &Raw) -> Box<dyn Rust> {
     let (record, arrays) = (&ours.record, &ours.arrays);
     let n = record[N] as usize;

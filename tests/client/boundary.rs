@@ -6,7 +6,7 @@ use crate::same;
 use vecq::Index;
 
 pub fn check() {
-    for (version, width) in [(259, 4), (260, 4), (261, 5), (261, 6)] {
+    for (version, width) in [(259, 4), (260, 4), (261, 5), (261, 6), (262, 4), (263, 4), (264, 5), (264, 6)] {
         for (dim, count) in [(1, 9), (2, 1), (3, 17), (17, 5), (33, 16)] {
             let mut stated = Stated::new(version, dim, width, count);
             stated.keys = scattered_keys(count);

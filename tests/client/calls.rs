@@ -8,6 +8,9 @@ use vecq::{Error, Index, MOST_SLOTS};
 
 const STACK: usize = 2 << 20;
 
+/// The present year: past that of every slot.
+const PRESENT: u16 = u16::MAX;
+
 /// An answer from a thread of its own.
 fn small_thread<T: Send>(call: impl FnOnce() -> T + Send) -> T {
     std::thread::scope(|scope| {
@@ -35,22 +38,22 @@ pub fn every_call(case: &str, stated: &Stated) {
     asking(&said, &index, &vector);
     // The first changes are made with every slot in use, the adds once there is room.
     done(&said("relabel"), || index.relabel(5, 6));
-    done(&said("add_keyed over a slot"), || if index.contains_key(6)? { index.add_keyed(6, &vector) } else { Ok(0) });
+    done(&said("add_keyed over a slot"), || if index.contains_key(6)? { index.add_keyed(6, &vector, 2050, PRESENT) } else { Ok(0) });
     let last = index.slots() - 1;
     if let Ok(Some(key)) = index.key_of(last) {
-        done(&said("remove_keyed_at"), || index.remove_keyed_at(key, last));
+        done(&said("remove_keyed_at"), || index.remove_keyed_at(key, last, PRESENT));
     }
-    done(&said("remove_keyed_at of no slot"), || index.remove_keyed_at(5, last));
-    done(&said("remove_keyed"), || index.remove_keyed(6));
+    done(&said("remove_keyed_at of no slot"), || index.remove_keyed_at(5, last, PRESENT));
+    done(&said("remove_keyed"), || index.remove_keyed(6, PRESENT));
     done(&said("to_bytes after removals"), || index.to_bytes().map(drop));
     done(&said("compact"), || index.compact());
     if index.slots() + 3 <= MOST_SLOTS {
-        done(&said("add"), || index.add(&vector));
-        done(&said("add_keyed"), || index.add_keyed(6, &vector));
-        done(&said("add_keyed_multi"), || index.add_keyed_multi(6, &vector));
+        done(&said("add"), || index.add(&vector, 0));
+        done(&said("add_keyed"), || index.add_keyed(6, &vector, 1, PRESENT));
+        done(&said("add_keyed_multi"), || index.add_keyed_multi(6, &vector, 2050));
     } else {
         // No slot had a key, so none could be removed: the adds go through all their tests up to the last one.
-        let answer = small_thread(|| (index.add(&vector), index.add_keyed(6, &vector), index.add_keyed_multi(6, &vector)));
+        let answer = small_thread(|| (index.add(&vector, 0), index.add_keyed(6, &vector, 1, PRESENT), index.add_keyed_multi(6, &vector, 2050)));
         same::equal(&said("adds"), answer, (Err(8.into()), Err(8.into()), Err(8.into())));
     }
 }
@@ -80,7 +83,7 @@ fn making(like: &Index, vector: &[f32]) {
     done("with_residual", || Index::with_residual(dim, 1).map(Read));
     let mut empty = Index::new(dim, 1).expect("an index is made");
     done("set_bits", || empty.set_bits(6));
-    done("a first add", || empty.add(vector));
+    done("a first add", || empty.add(vector, 1));
 }
 
 /// An index, of which a message shows its counts alone.

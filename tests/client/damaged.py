@@ -8,6 +8,12 @@ from command import Checks, Folder, csv, drawn, fvecs
 
 ROUNDS = 40
 DIM = 5
+SCRIPT = """add rows.csv --year 2036 --keyed --present 2030
+relabel 1 9
+remove 9 --present 2036
+remove 2 --slot 3 --present 2036
+add rows.fvecs --year 0 --multi
+"""
 
 
 def damaged(draw, data):
@@ -31,9 +37,9 @@ def prepared():
     (folder / "rows.csv").write_bytes(csv(rows, [i % 5 if i % 3 else None for i in range(12)]))
     (folder / "rows.fvecs").write_bytes(fvecs(rows))
     (folder / "rows.keys").write_text("".join(f"{i}\n" for i in range(12)))
-    folder.done("add", "i.vecq", "rows.csv", "--multi")
+    folder.done("add", "i.vecq", "rows.csv", "--multi", "--year", 2030)
     folder.done("find", "i.vecq", "rows.fvecs", "-o", "list")
-    (folder / "script").write_text("add rows.csv --keyed\nrelabel 1 9\nremove 9\nremove 2 --slot 3\nadd rows.fvecs --multi\n")
+    (folder / "script").write_text(SCRIPT)
     return folder
 
 
@@ -41,20 +47,23 @@ def prepared():
 USES = (
     ("i.vecq", (
         "info i.vecq --slots", "check i.vecq", "keys i.vecq", "find i.vecq rows.fvecs --cascade 3", "find i.vecq rows.fvecs --by key",
-        "score i.vecq rows.fvecs --slot 2", "relabel i.vecq 1 77", "remove i.vecq 2", "add i.vecq rows.csv --keyed", "edit i.vecq",
+        "score i.vecq rows.fvecs --slot 2", "relabel i.vecq 1 77", "remove i.vecq 2 --present 2030", "add i.vecq rows.csv --year 1 --keyed --present 2030",
+        "edit i.vecq",
     )),
-    ("rows.csv", ("add i.vecq rows.csv --multi", "add i.vecq rows.csv", "find i.vecq rows.csv --keyed --format json", "find i.vecq rows.csv --header")),
-    ("rows.fvecs", ("add i.vecq rows.fvecs --keyed", "file i.vecq rows.fvecs -k 2 -o out")),
-    ("rows.keys", ("add i.vecq rows.fvecs --multi",)),
+    ("rows.csv", (
+        "add i.vecq rows.csv --year 1 --multi", "add i.vecq rows.csv --year 0", "find i.vecq rows.csv --keyed --format json", "find i.vecq rows.csv --header",
+    )),
+    ("rows.fvecs", ("add i.vecq rows.fvecs --year 1 --keyed --present 2030", "file i.vecq rows.fvecs -k 2 -o out")),
+    ("rows.keys", ("add i.vecq rows.fvecs --year 1 --multi",)),
     ("script", ("edit i.vecq",)),
     ("list", ("same list kept",)),
 )
-# What is said with each status. A refusal has one of document 01's numbers, but never 13.
+# What is said with each status. A refusal has one of the numbers of documents 01 and 02, but never 13.
 SAID = {
     0: "",
     1: r"(vecq: [^\n]+\n)?",
     2: r"vecq: [^\n]+\n(try: vecq help \w+\n)?",
-    3: r"vecq: (line \d+: )?refused ([1-9]|1[0-24-9]|20): [^\n]+\n",
+    3: r"vecq: (line \d+: )?refused ([1-9]|1[0-24-9]|2[01]): [^\n]+\n",
     4: r"vecq: [^\n]+\n",
 }
 

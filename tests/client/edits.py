@@ -5,7 +5,10 @@ import shutil
 
 from command import Checks, Folder, csv, drawn
 
-SEEDS = range(1, 7)
+SEEDS = range(1, 13)
+# Of slots and of the present: most may go, some later in the script, some never.
+YEARS = (1, 1, 1, 1, 0, 2030, 2031, 65535)
+PRESENTS = (0, 2029, 2030, 2031)
 LINES = 24
 KINDS = (("--bits", "4"), ("--bits", "5"), ("--bits", "6"), ("--residual",), ("--working", "3"), ())
 
@@ -25,12 +28,13 @@ def drawn_line(folder, draw, number, dim, slots):
     key = draw.choice((1, 2, 3, 4, 2**64 - 1, 9))
     if kind < 5:
         option = vectors_file(folder, draw, f"rows{number}.csv", dim)
-        return ["add", f"rows{number}.csv", *([option] if option else [])]
+        present = ("--present", str(draw.choice(PRESENTS))) if option == "--keyed" else ()
+        return ["add", f"rows{number}.csv", "--year", str(draw.choice(YEARS)), *([option] if option else []), *present]
     if kind < 7:
         return ["relabel", str(key), str(draw.choice((1, 2, 3, 4, 5, 9)))]
     if kind < 9:
-        return ["remove", str(key), "--slot", str(draw.randrange(slots + 1))]
-    return ["remove", str(key)]
+        return ["remove", str(key), "--slot", str(draw.randrange(slots + 1)), "--present", str(draw.choice(PRESENTS))]
+    return ["remove", str(key), "--present", str(draw.choice(PRESENTS))]
 
 
 def live(ran_out):
@@ -85,7 +89,7 @@ def check_ended(checks, folder, draw, lines, alone, what):
     """A script whose last line isn't done: said as the line alone was, with its number, and the file as it was."""
     shutil.copy(folder / "start.vecq", folder / "all.vecq")
     script, last = as_script(draw, lines)
-    ran = folder.vecq("edit", "all.vecq", stdin=script + b"remove 1\n")
+    ran = folder.vecq("edit", "all.vecq", stdin=script + b"remove 1 --present 1\n")
     said = alone.err.removeprefix("vecq: ").replace("one.vecq", "all.vecq")
     checks.equal(what, (ran.status, ran.out, ran.err), (alone.status, "", f"vecq: line {last}: {said}"))
     checks.that(f"{what}: nothing saved", (folder / "all.vecq").read_bytes() == (folder / "start.vecq").read_bytes(), "the file changed")

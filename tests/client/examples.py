@@ -77,7 +77,7 @@ def prepared(example):
     (folder / "new.csv").write_text("1,2,3,4\n")
     if not re.search(r"^ *vecq new ", example, re.M):
         folder.done("new", "games.vecq", "--dim", 4)
-        folder.done("add", "games.vecq", "games.csv", "--keyed")
+        folder.done("add", "games.vecq", "games.csv", "--year", 1, "--keyed", "--present", 1)
         for name in ("ours.list", "theirs.list"):
             folder.done("find", "games.vecq", "new.csv", "-o", name)
     return folder

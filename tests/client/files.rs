@@ -8,21 +8,32 @@ pub struct Stated {
     pub dim: u32,
     /// 0 where it equals dim
     pub working_dim: u16,
-    /// The width byte, which version 261 alone has.
+    /// The width byte, which versions 261 and 264 alone have.
     pub width: u8,
     pub count: u32,
     pub keys: Vec<(u32, u64)>,
+    /// The year of each slot, which versions 262 to 264 alone have.
+    pub years: Vec<u16>,
 }
 
 impl Stated {
+    /// The years are from 2000 to 2049: no slot is kept for good.
     pub fn new(version: u16, dim: u32, width: u8, count: u32) -> Stated {
-        Stated { version, dim, working_dim: 0, width, count, keys: Vec::new() }
+        Stated { version, dim, working_dim: 0, width, count, keys: Vec::new(), years: (0..count).map(|slot| 2000 + (slot % 50) as u16).collect() }
+    }
+
+    fn has_width(&self) -> bool {
+        matches!(self.version, 261 | 264)
+    }
+
+    fn stages(&self) -> usize {
+        if matches!(self.version, 260 | 263) { 2 } else { 1 }
     }
 
     /// "Bytes per vector: padded times width, over 8, rounded up."
     fn block(&self) -> usize {
         let working = if self.working_dim == 0 { self.dim } else { self.working_dim as u32 };
-        let width = if self.version == 261 { self.width as usize } else { 4 };
+        let width = if self.has_width() { self.width as usize } else { 4 };
         (working.next_power_of_two() as usize * width).div_ceil(8)
     }
 
@@ -34,10 +45,10 @@ impl Stated {
         file.extend(self.dim.to_le_bytes());
         file.extend(1u64.to_le_bytes());
         file.extend(self.count.to_le_bytes());
-        if self.version == 261 {
+        if self.has_width() {
             file.push(self.width);
         }
-        for _ in 0..if self.version == 260 { 2 } else { 1 } {
+        for _ in 0..self.stages() {
             (0..self.count).for_each(|_| file.extend((0x2C00 + random.below(0x1000) as u16).to_le_bytes()));
             file.extend((0..self.count as usize * self.block()).map(|_| random.word() as u8));
         }
@@ -46,12 +57,15 @@ impl Stated {
             file.extend(slot.to_le_bytes());
             file.extend(key.to_le_bytes());
         }
+        if self.version >= 262 {
+            self.years.iter().for_each(|year| file.extend(year.to_le_bytes()));
+        }
         file
     }
 
     /// Where the first scale stands.
     pub fn first_scale(&self) -> usize {
-        if self.version == 261 { 25 } else { 24 }
+        if self.has_width() { 25 } else { 24 }
     }
 }
 

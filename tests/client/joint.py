@@ -16,8 +16,8 @@ def house(kind):
     rows = [drawn(draw, DIM) for _ in range(60)]
     keys = [None if i % 9 == 0 else i // 2 for i in range(60)]
     (folder / "rows.csv").write_bytes(csv(rows, keys))
-    folder.done("add", "games.vecq", "rows.csv", "--multi")
-    folder.done("remove", "games.vecq", 3)
+    folder.done("add", "games.vecq", "rows.csv", "--multi", "--year", 2030)
+    folder.done("remove", "games.vecq", 3, "--present", 2030)
     folder.done("relabel", "games.vecq", 4, 1000)
     queries = [drawn(draw, DIM) for _ in range(5)]
     (folder / "queries.csv").write_bytes(csv(queries))

@@ -10,6 +10,9 @@ SEEDS = range(1, 11)
 KINDS = (("--bits", "4"), ("--bits", "5"), ("--bits", "6"), ("--residual",), ())
 # Games with one trait (document 02, Req 05): residual, and of 4 bits.
 ONE_TRAIT = (8, 10)
+# Retention years that slots get, and present years; past the last one every slot may go.
+YEARS = (1, 1, 2, 0x0102, 2030)
+PRESENTS = (0, 1, 2029, 2030)
 # Decimals that a rounding in two steps gets wrong, halfway cases, the ends of the range.
 DECIMALS = (
     "1.00000005960464477539062500000001", "1.000000059604644775390625", "1.00000017881393432617187499999999", "16777217", "16777219", "0.1", "-0.3", "1e-3",
@@ -52,7 +55,7 @@ def as_fvecs(rows):
 
 
 class Case:
-    """A folder with an index of drawn rows, its file's bytes, and drawn queries."""
+    """A folder with an index of drawn rows, added in two parts with a year each, its file's bytes, and drawn queries."""
 
     def __init__(self, seed):
         self.draw, self.folder, self.name = random.Random(seed), Folder(), f"seed {seed}"
@@ -64,8 +67,11 @@ class Case:
         self.folder.done("new", "i.vecq", "--dim", self.dim, "--seed", self.index_seed, *self.kind, *self.more)
         self.rows = [drawn_row(draw, self.dim) for _ in range(draw.randrange(1, 40))]
         self.keys = [draw.choice(("-", "1", "2", "3", "18446744073709551615")) for _ in self.rows]
-        (self.folder / "rows.csv").write_bytes(as_text(draw, self.rows, self.keys))
-        self.ran = self.folder.done("add", "i.vecq", "rows.csv", "--multi")
+        self.half = draw.randrange(len(self.rows))
+        self.years = [draw.choice(YEARS)] * self.half + [draw.choice(YEARS)] * (len(self.rows) - self.half)
+        for part in (slice(0, self.half), slice(self.half, None)):
+            (self.folder / "rows.csv").write_bytes(as_text(draw, self.rows[part], self.keys[part]))
+            self.ran = self.folder.done("add", "i.vecq", "rows.csv", "--multi", "--year", self.years[part][0] if self.years[part] else 1)
         self.file = (self.folder / "i.vecq").read_bytes()
         self.queries = [drawn_row(draw, self.dim) for _ in range(4)]
         self.patterns = [[tools.binary32(x) for x in row] for row in self.queries]
@@ -79,16 +85,17 @@ def check_added(checks, case):
     working = case.more[1] if case.more else case.dim
     making = f"residual {case.dim:x} {case.index_seed:x}" if kind == "residual" else f"working {case.dim:x} {working:x} {case.index_seed:x}"
     bits = [f"bits {case.kind[1]}"] if "--bits" in case.kind else []
-    adds = [(f"add {v}" if key == "-" else f"add_multi {int(key):x} {v}")
-            for key, v in zip(case.keys, (tools.vector([tools.binary32(x) for x in row]) for row in case.rows))]
-    written = tools.exercise(["lend 100000 1000 1000 1000 1000 40 100000 1000", making, *bits, *adds, "write 10000"])[-1]
+    vectors = [tools.vector([tools.binary32(x) for x in row]) for row in case.rows]
+    adds = [(f"add {v} {year:x}" if key == "-" else f"add_multi {int(key):x} {v} {year:x}") for key, v, year in zip(case.keys, vectors, case.years)]
+    written = tools.exercise([tools.LEND, making, *bits, *adds, "write 10000"])[-1]
     checks.equal(f"{case.name}: the file", case.file.hex(), written.removeprefix("bytes "))
-    checks.equal(f"{case.name}: what add says", case.ran.out, f"added\t{len(case.rows)}\nlive\t{len(case.rows)}\nbytes\t{len(case.file)}\n")
+    checks.equal(f"{case.name}: what add says", case.ran.out, f"added\t{len(case.rows) - case.half}\nlive\t{len(case.rows)}\nbytes\t{len(case.file)}\n")
     # The same rows as .fvecs with a .keys file beside it.
-    (case.folder / "rows.fvecs").write_bytes(as_fvecs([[tools.binary32(x) for x in row] for row in case.rows]))
-    (case.folder / "rows.keys").write_text("".join(f"{key}\n" for key in case.keys))
     case.folder.done("new", "f.vecq", "--dim", case.dim, "--seed", case.index_seed, *case.kind, *case.more)
-    case.folder.done("add", "f.vecq", "rows.fvecs", "--multi")
+    for part in (slice(0, case.half), slice(case.half, None)):
+        (case.folder / "rows.fvecs").write_bytes(as_fvecs([[tools.binary32(x) for x in row] for row in case.rows[part]]))
+        (case.folder / "rows.keys").write_text("".join(f"{key}\n" for key in case.keys[part]))
+        case.folder.done("add", "f.vecq", "rows.fvecs", "--multi", "--year", case.years[part][0] if case.years[part] else 1)
     checks.equal(f"{case.name}: the file from .fvecs", (case.folder / "f.vecq").read_bytes(), case.file)
 
 
@@ -99,8 +106,10 @@ def check_info(checks, case):
              ("bytes", len(case.file)), ("sha256", tools.sha256(case.file))]
     text = "".join(f"{name}\t{fact}\n" for name, fact in facts)
     checks.equal(f"{case.name}: info", case.folder.done("info", "i.vecq").out, text)
-    slots = "".join(line.replace(" ", "\t") + "\n" for line in tools.listing(case.file).splitlines()[1:])
-    checks.equal(f"{case.name}: info --slots", case.folder.done("info", "i.vecq", "--slots").out, f"{text}\n{slots}")
+    lines = zip(tools.listing(case.file).splitlines()[1:], case.years)
+    slots = "".join(line.replace(" ", "\t") + f"\t{year}\n" for line, year in lines)
+    checks.equal(f"{case.name}: info --slots", case.folder.done("info", "i.vecq", "--slots").out, f"{text}\nslot\tkey\thalf\tyear\n{slots}")
+    checks.equal(f"{case.name}: years", (head.years, head.version >= 262), (tuple(case.years), any(year != 1 for year in case.years)))
 
 
 def check_keys(checks, case):
@@ -196,18 +205,37 @@ def check_changes(checks, case):
         return
     slot = case.keys.index(str(keys[1]))
     case.folder.done("relabel", "i.vecq", keys[0], 77)
-    case.folder.done("remove", "i.vecq", keys[1], "--slot", slot)
-    case.folder.done("remove", "i.vecq", 77)
-    calls = [f"relabel {keys[0]:x} 4d", f"remove_at {keys[1]:x} {slot:x}", "compact", "remove 4d", "compact", "write 10000"]
+    case.folder.done("remove", "i.vecq", keys[1], "--slot", slot, "--present", 2030)
+    case.folder.done("remove", "i.vecq", 77, "--present", 65535)
+    calls = [f"relabel {keys[0]:x} 4d", f"remove_at {keys[1]:x} {slot:x} 7ee", "compact", "remove 4d ffff", "compact", "write 10000"]
     written = tools.exercise(tools.reading(case.file) + calls)[-1]
     checks.equal(f"{case.name}: the file after changes", (case.folder / "i.vecq").read_bytes().hex(), written.removeprefix("bytes "))
     rows = [drawn_row(case.draw, case.dim) for _ in range(4)]
     (case.folder / "over.csv").write_bytes(as_text(case.draw, rows, ["2", "5", "-", "5"]))
-    ran = case.folder.done("add", "i.vecq", "over.csv", "--keyed")
-    adds = [f"{'add' if key == '-' else f'add_keyed {key}'} {tools.vector([tools.binary32(x) for x in row])}" for key, row in zip("25-5", rows)]
+    ran = case.folder.done("add", "i.vecq", "over.csv", "--year", 2029, "--keyed", "--present", 2030)
+    vectors = [tools.vector([tools.binary32(x) for x in row]) for row in rows]
+    adds = [f"add {v} 7ed" if key == "-" else f"add_keyed {key} {v} 7ed 7ee" for key, v in zip("25-5", vectors)]
     written = tools.exercise(tools.reading(case.file) + calls[:-1] + adds + ["write 10000"])[-1]
     checks.equal(f"{case.name}: the file after overwrites", (case.folder / "i.vecq").read_bytes().hex(), written.removeprefix("bytes "))
     checks.that(f"{case.name}: added", ran.out.startswith("added\t4\n"), ran)
+
+
+def check_kept(checks, case):
+    """Removals and overwrites at several present years: each is done, or refused by 21 and leaves the file, as `exercise` has it."""
+    (case.folder / "one.csv").write_bytes(as_text(case.draw, [case.rows[0]], ["3"]))
+    entries = tools.vector([tools.binary32(x) for x in case.rows[0]])
+    slot = case.keys.index("3") if "3" in case.keys else 0
+    for present in PRESENTS:
+        uses = ((("remove", "k.vecq", 3), f"remove 3 {present:x}"), (("remove", "k.vecq", 3, "--slot", slot), f"remove_at 3 {slot:x} {present:x}"),
+                (("add", "k.vecq", "one.csv", "--year", 0, "--keyed"), f"add_keyed 3 {entries} 0 {present:x}"))
+        for words, line in uses:
+            (case.folder / "k.vecq").write_bytes(case.file)
+            ran = case.folder.vecq(*words, "--present", present)
+            answer, *_, written = tools.exercise(tools.reading(case.file) + [line, "compact", "write 10000"])[2:]
+            status = {"no": 1, "refused 21": 3}.get(answer, 0)
+            what = f"{case.name}: {' '.join(map(str, words))} --present {present}"
+            checks.that(what, ran.status == status and ("refused 21: " in ran.err) == (status == 3), f"{ran}, and exercise has {answer}")
+            checks.equal(f"{what}: the file", (case.folder / "k.vecq").read_bytes().hex(), written.removeprefix("bytes ") if status == 0 else case.file.hex())
 
 
 def check_many_queries(checks):
@@ -231,7 +259,7 @@ def check_zeros(checks):
     folder = Folder()
     folder.done("new", "z.vecq", "--dim", 2)
     (folder / "rows.csv").write_text("".join(f"{key},1,0\n" for key in (7, 7, 8, 9, 7, 8)))
-    folder.done("add", "z.vecq", "rows.csv", "--multi")
+    folder.done("add", "z.vecq", "rows.csv", "--multi", "--year", 1)
     file = bytearray((folder / "z.vecq").read_bytes())
     file[25:37] = bytes.fromhex("0080 0000 00bc 003c 0000 0080")
     (folder / "z.vecq").write_bytes(file)
@@ -253,8 +281,10 @@ def check_listed_files(checks):
         if " " in right[0]:
             facts = dict(line.split("\t") for line in ran.out.split("\n\n")[0].splitlines())
             said = [" ".join(facts[fact] for fact in ("version", "dim", "working_dim", "bits", "slots"))] if facts else []
-            said += [line.replace("\t", " ") for line in ran.out.partition("\n\n")[2].splitlines()]
+            rows = [line.split("\t") for line in ran.out.partition("\n\n")[2].splitlines()[1:]]
+            said += [" ".join(row[:-1]) for row in rows]
             checks.equal(f"info of {name}", (ran.status, said), (0, right))
+            checks.that(f"info of {name}: years", facts.get("version", "") >= "262" or {row[-1] for row in rows} <= {"1"}, rows)
         else:
             checks.that(f"info of {name}", ran.status == 3 and ran.err.startswith(f"vecq: refused {right[0]}: "), f"{ran}, and 01 has {right[0]}")
 
@@ -263,7 +293,7 @@ def main():
     checks = Checks("the command beside exercise, listing, hashes and exact rounding")
     for seed in SEEDS:
         case = Case(seed)
-        for check in (check_added, check_info, check_keys, check_lists, check_scores, check_changes):
+        for check in (check_added, check_info, check_keys, check_lists, check_scores, check_kept, check_changes):
             check(checks, case)
     check_many_queries(checks)
     check_zeros(checks)

@@ -7,6 +7,7 @@ mod scripts;
 mod snapshot;
 mod stack;
 mod threads;
+mod years;
 
 #[allow(dead_code)] // the oracle uses more of it
 #[path = "../oracle/random.rs"]
@@ -22,7 +23,7 @@ use std::path::Path;
 use std::process::ExitCode;
 use std::time::Instant;
 
-const USAGE: &str = "usage: crate_checks refusals | stack | threads | boundary | scripts EXERCISE FOLDER";
+const USAGE: &str = "usage: crate_checks refusals | years | stack | threads | boundary | scripts EXERCISE FOLDER";
 
 fn main() -> ExitCode {
     let words: Vec<String> = std::env::args().skip(1).collect();
@@ -32,6 +33,10 @@ fn main() -> ExitCode {
         ["refusals"] => {
             refusals::check();
             "each refusal through the crate"
+        }
+        ["years"] => {
+            years::check();
+            "retention years through the crate"
         }
         ["stack"] => {
             stack::check();

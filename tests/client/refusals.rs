@@ -1,4 +1,4 @@
-//! Each number of document 01's table that can come through the crate, by the table's example or its smallest input; and after each the index is what it
+//! Each number of documents 01 and 02 that can come through the crate, by the table's example or its smallest input; and after each the index is what it
 //! was. 13 can't come: `Index` keeps the record that the library gave it, lengthens all arrays together, and lends a search min(max(k,1), live) places and a
 //! writing the file's length, so nothing that 13 names can be brought about from outside. Padded size 1 at 4 bits is accepted (document 02, Req 05).
 use crate::files::Stated;
@@ -12,9 +12,9 @@ type Call = fn(&mut Index, &[f32]) -> Result<(), Error>;
 
 /// The calls that take a vector.
 const ADDS: [(&str, Call); 3] = [
-    ("add", |index, v| index.add(v).map(drop)),
-    ("add_keyed", |index, v| index.add_keyed(77, v).map(drop)),
-    ("add_keyed_multi", |index, v| index.add_keyed_multi(5, v).map(drop)),
+    ("add", |index, v| index.add(v, 1).map(drop)),
+    ("add_keyed", |index, v| index.add_keyed(77, v, 1, 1).map(drop)),
+    ("add_keyed_multi", |index, v| index.add_keyed_multi(5, v, 1).map(drop)),
 ];
 const SCORE: (&str, Call) = ("score", |index, v| index.score(0, v).map(drop));
 const SEARCHES: [(&str, Call); 3] = [
@@ -37,31 +37,31 @@ pub fn check() {
 }
 
 /// The number, and that the index is what it was.
-fn refused<T: Debug>(what: &str, index: &mut Index, number: u8, call: impl FnOnce(&mut Index) -> Result<T, Error>) {
+pub fn refused<T: Debug>(what: &str, index: &mut Index, number: u8, call: impl FnOnce(&mut Index) -> Result<T, Error>) {
     let before = Snapshot::of(index);
     turned_down(what, number, call(index));
     same::equal(&format!("{what}: the index afterwards"), Snapshot::of(index), before);
 }
 
-fn turned_down<T: Debug>(what: &str, number: u8, answer: Result<T, Error>) {
+pub fn turned_down<T: Debug>(what: &str, number: u8, answer: Result<T, Error>) {
     same::check(what, answer.as_ref().err().and_then(|error| error.number()) == Some(number), || format!("{answer:?}, and 01 has {number}"));
 }
 
-fn accepted<T: Debug>(what: &str, answer: Result<T, Error>) {
+pub fn accepted<T: Debug>(what: &str, answer: Result<T, Error>) {
     same::check(what, answer.is_ok(), || format!("{answer:?}"));
 }
 
-/// Keys with one slot and with several, slots without a key and a dead one; at 4 bits the cascade is enabled.
+/// Keys with one slot and with several, slots without a key and a dead one, years of every kind; at 4 bits the cascade is enabled.
 fn index(bits: u8, residual: bool, dim: usize) -> Index {
     let mut index = if residual { Index::with_residual(dim, 3) } else { Index::new(dim, 3) }.expect("an index is made");
     index.set_bits(bits).expect("a width is set");
     let mut random = Random::new(dim as u64);
     let mut vector = || (0..dim).map(|_| random.unit()).collect::<Vec<f32>>();
-    for key in [5, 6, 7, 5, 8, 5] {
-        index.add_keyed_multi(key, &vector()).expect("a slot is added");
+    for (key, year) in [(5, 2030), (6, 1), (7, 0), (5, 0), (8, 1), (5, 2040)] {
+        index.add_keyed_multi(key, &vector(), year).expect("a slot is added");
     }
-    index.add(&vector()).expect("a slot is added");
-    assert_eq!(index.remove_keyed_at(5, 0), Ok(true));
+    index.add(&vector(), 1).expect("a slot is added");
+    assert_eq!(index.remove_keyed_at(5, 0, 2030), Ok(true));
     if bits == 4 {
         index.enable_cascade().expect("the cascade is enabled");
     }
@@ -94,11 +94,11 @@ fn vectors() {
     }
     // The table's own example of 3.
     let mut two = Index::new(2, 1).expect("an index is made");
-    refused("add of 1e30, 0", &mut two, 3, |index| index.add(&[1e30, 0.0]));
+    refused("add of 1e30, 0", &mut two, 3, |index| index.add(&[1e30, 0.0], 1));
     // Entries past working_dim aren't read.
     let mut first = Index::with_working_dim(2, 1, 1).expect("an index is made");
-    accepted("a NaN past working_dim", first.add(&[1.0, f32::NAN]));
-    refused("a NaN within working_dim", &mut first, 2, |index| index.add(&[f32::NAN, 1.0]));
+    accepted("a NaN past working_dim", first.add(&[1.0, f32::NAN], 1));
+    refused("a NaN within working_dim", &mut first, 2, |index| index.add(&[f32::NAN, 1.0], 1));
 }
 
 /// 4.
@@ -132,9 +132,9 @@ fn widths() {
             refused(&format!("width {width} while slots are in use, {kind}"), &mut index, 6, |index| index.set_bits(width));
         }
     }
-    empty.add_keyed(1, &[1.0; 4]).expect("a slot is added");
+    empty.add_keyed(1, &[1.0; 4], 1, 1).expect("a slot is added");
     refused("one slot", &mut empty, 6, |index| index.set_bits(4));
-    assert_eq!(empty.remove_keyed(1), Ok(true));
+    assert_eq!(empty.remove_keyed(1, 1), Ok(true));
     refused("one dead slot", &mut empty, 6, |index| index.set_bits(4));
     empty.compact().expect("an index is compacted");
     accepted("no slot after a compaction", empty.set_bits(4));
@@ -153,20 +153,20 @@ fn no_room() {
         for (name, call) in ADDS {
             turned_down(&format!("{name}, 65,536 slots"), 8, call(&mut full, &[1.0]));
         }
-        turned_down("2 before 8", 2, full.add(&[0.0]));
+        turned_down("2 before 8", 2, full.add(&[0.0], 1));
         let before = full.to_bytes();
         same::equal("65,536 slots in use", (full.slots(), full.live()), (MOST_SLOTS, MOST_SLOTS));
-        same::equal("an overwrite needs no room", full.add_keyed(6, &[1.0]), Ok(4));
+        same::equal("an overwrite needs no room", full.add_keyed(6, &[1.0], 1, 1), Ok(4));
         same::check("an overwrite is stored", full.to_bytes() != before, || "the file is the old one".to_string());
-        same::equal("a removal", full.remove_keyed(5), Ok(true));
-        turned_down("a place freed by removal", 8, full.add(&[1.0]));
+        same::equal("a removal", full.remove_keyed(5, 1), Ok(true));
+        turned_down("a place freed by removal", 8, full.add(&[1.0], 1));
         accepted("a compaction", full.compact());
-        same::equal("serves again after it", full.add(&[1.0]), Ok(MOST_SLOTS as u32 - 1));
-        turned_down("the next add", 8, full.add(&[1.0]));
+        same::equal("serves again after it", full.add(&[1.0], 1), Ok(MOST_SLOTS as u32 - 1));
+        turned_down("the next add", 8, full.add(&[1.0], 1));
     }
     let mut grown = Index::new(1, 1).expect("an index is made");
     for slot in 0..100 {
-        same::equal("a slot where room was made", grown.add(&[1.0]), Ok(slot));
+        same::equal("a slot where room was made", grown.add(&[1.0], 1), Ok(slot));
     }
 }
 
@@ -174,7 +174,7 @@ fn no_room() {
 fn no_slot() {
     let mut three = Index::new(4, 1).expect("an index is made");
     for slot in 0..3 {
-        same::equal("a slot that is added", three.add(&[1.0, 2.0, 3.0, 4.0]), Ok(slot));
+        same::equal("a slot that is added", three.add(&[1.0, 2.0, 3.0, 4.0], 1), Ok(slot));
     }
     for slot in [3, 4, MOST_SLOTS, usize::MAX] {
         refused("a slot past those in use", &mut three, 9, |index| index.score(slot, &[1.0; 4]));
@@ -195,7 +195,7 @@ fn one_trait() {
         one.enable_cascade().expect("the cascade is enabled");
         same::equal("no slot to score", one.search(&[1.0], 3), Ok(Vec::new()));
         refused("no slot in use", &mut one, 9, |index| index.score(0, &[1.0]));
-        one.add_keyed(5, &[1.0]).expect("a slot is added");
+        one.add_keyed(5, &[1.0], 1, 1).expect("a slot is added");
         one.enable_cascade().expect("the cascade is enabled");
         for (name, call) in [&SCORE].into_iter().chain(&SEARCHES) {
             accepted(&format!("{name}, dim 1 at 4 bits"), call(&mut one, &[2.0]));
@@ -208,7 +208,7 @@ fn one_trait() {
     // The first sign of seed 1 is -1: 3 becomes -1, which has code 3 and a scale of 1.1266743, one over 0.887568. Their product is 1.
     let mut plain = Index::new(1, 1).expect("an index is made");
     plain.set_bits(4).expect("a width is set");
-    plain.add(&[3.0]).expect("a slot is added");
+    plain.add(&[3.0], 1).expect("a slot is added");
     same::equal("a score by hand", plain.score(0, &[0.5]), Ok(1.0));
     same::equal("its opposite", plain.score(0, &[-0.5]), Ok(-1.0));
     for version in [259, 260] {
@@ -242,7 +242,7 @@ fn one_trait_read(version: u16) {
         same::equal(&format!("search_cascade, k {k}, r {r}"), index.search_cascade(&[2.0], k, r), hits(slots));
     }
     // An overwrite keeps the high four bits: -2 becomes 1, of code 11, and what is left of it is above 0, so code 11 again.
-    index.add_keyed(5, &[-2.0]).expect("a slot is overwritten");
+    index.add_keyed(5, &[-2.0], 1, 1).expect("a slot is overwritten");
     let written = index.to_bytes().expect("a file is written");
     for stage in 0..stages {
         let at = stated.first_scale() + 12 * stage + 8;
@@ -270,7 +270,7 @@ fn cascade() {
     for residual in [false, true] {
         let mut index = index(4, residual, 4);
         accepted("enabled", index.search_cascade(&[1.0; 4], 1, 1).map(drop));
-        index.add_keyed(8, &[1.0; 4]).expect("a slot is overwritten");
+        index.add_keyed(8, &[1.0; 4], 1, 1).expect("a slot is overwritten");
         refused("not enabled since an overwrite", &mut index, 11, |index| index.search_cascade(&[1.0; 4], 1, 1));
         index.enable_cascade().expect("the cascade is enabled");
         index.compact().expect("an index is compacted");
@@ -298,7 +298,7 @@ fn not_a_number() {
             index.enable_cascade().expect("the cascade is enabled");
             refused("search_cascade over a NaN", &mut index, 12, |index| index.search_cascade(&query, 1, 3));
         }
-        same::equal("the NaN's slot is removed", index.remove_keyed(9), Ok(true));
+        same::equal("the NaN's slot is removed", index.remove_keyed(9, 1), Ok(true));
         accepted("a dead slot isn't ranked", index.search(&query, 3).map(drop));
     }
 }
@@ -321,7 +321,7 @@ fn files() {
     let named = |name: &[u8; 4]| [&name[..], &file[4..]].concat();
     read("VECR", 15, &named(b"VECR"));
     read("14 before 15", 14, &named(b"VECR")[..23]);
-    read("version 262", 16, &with(|f| f.version = 262));
+    read("version 265", 16, &with(|f| f.version = 265));
     read("working_dim 5 over dim 4", 17, &with(|f| f.working_dim = 5));
     read("dim 0", 17, &with(|f| f.dim = 0));
     read("17 before the width byte's 14", 17, &with(|f| f.working_dim = 5)[..24]);
@@ -346,13 +346,13 @@ fn files() {
 
 /// What the head states, where it is sound.
 fn versions(file: &[u8]) {
-    for version in [257, 258, 259, 260, 261] {
+    for version in 257..=264 {
         let stated = Stated::new(version, 4, 4, 0).bytes(&mut Random::new(1));
         same::equal("a version", Index::version(&stated), Ok(version));
         accepted("a version is read", Index::from_bytes(&stated, 0).map(drop));
     }
     turned_down("the version of a cut head", 14, Index::version(&file[..23]));
-    turned_down("an unknown version", 16, Index::version(&Stated::new(258 + 4, 4, 4, 0).bytes(&mut Random::new(1))));
+    turned_down("an unknown version", 16, Index::version(&Stated::new(265, 4, 4, 0).bytes(&mut Random::new(1))));
 }
 
 /// Document 02, Req 07: version 1 is an unknown one, so 14 of a head that is cut and 15 come before 16, and nothing after it. One slot, its scale 1 in four bytes, its code 7.
@@ -377,13 +377,13 @@ fn version_1() {
 
 /// Each number that a call may give has words of its own, behind `refused N: `.
 fn words() {
-    let numbers: Vec<u8> = (1..=9).chain(11..=20).collect();
+    let numbers: Vec<u8> = (1..=9).chain(11..=21).collect();
     let texts: Vec<String> = numbers.iter().map(|&number| Error::from(number).to_string()).collect();
     for (number, text) in numbers.iter().zip(&texts) {
         same::check("words", text.starts_with(&format!("refused {number}: ")), || text.clone());
         let words = text.split_once(": ").map(|parts| parts.1);
         let alone = texts.iter().filter(|other| other.split_once(": ").map(|parts| parts.1) == words).count() == 1;
-        same::check("words of its own", alone && words != Error::from(21).to_string().split_once(": ").map(|parts| parts.1), || text.clone());
+        same::check("words of its own", alone && words != Error::from(22).to_string().split_once(": ").map(|parts| parts.1), || text.clone());
     }
     same::equal("14's words", Error::from(14).to_string(), "refused 14: file ends early".to_string());
 }

@@ -23,7 +23,7 @@ def main():
     for name in ("games.csv", "new_game.csv"):
         checks.equal(f"{name} by its rule", (folder / name).read_text(), (SAMPLES / name).read_text())
     folder.done("new", "games.vecq", "--dim", 12)
-    folder.done("add", "games.vecq", "games.csv", "--keyed", "--header")
+    folder.done("add", "games.vecq", "games.csv", "--year", 2036, "--keyed", "--present", 2026, "--header")
     checks.equal("games.vecq of games.csv", (folder / "games.vecq").read_bytes(), (SAMPLES / "games.vecq").read_bytes())
     found = folder.done("find", "games.vecq", "new_game.csv", "-k", 5, "--header")
     shown = "".join(f"    {line}\n" for line in found.out.splitlines())

@@ -16,6 +16,9 @@ import time
 from command import VECQ, Checks, Folder, Ran, csv, drawn, fvecs
 
 DIM = 32
+# Each file has a block of years.
+YEAR = "2036"
+ADDING = ("--year", YEAR, "--multi")
 SLOTS = 3000
 DELAYS = 200
 SAVING_CALLS = set("openat flock statx fstat newfstatat readlink unlink write fchmod fsync rename link linkat close read".split())
@@ -31,7 +34,7 @@ class House:
         (self.folder / "once.csv").write_bytes(csv([drawn(draw, DIM)], [1]))
         (self.folder / "twice.csv").write_bytes(csv([drawn(draw, DIM)], [2]))
         self.folder.done("new", "games.vecq", "--dim", DIM, "--bits", 6)
-        self.folder.done("add", "games.vecq", "rows.fvecs")
+        self.folder.done("add", "games.vecq", "rows.fvecs", "--year", YEAR)
         self.old = self.file.read_bytes()
         self.once = self.after("once.csv")
         self.twice = self.after("once.csv", "twice.csv")
@@ -41,7 +44,7 @@ class House:
     def after(self, *names):
         self.reset()
         for name in names:
-            self.folder.done("add", "games.vecq", name, "--multi")
+            self.folder.done("add", "games.vecq", name, *ADDING)
         return self.file.read_bytes()
 
     def reset(self):
@@ -49,7 +52,7 @@ class House:
         self.file.write_bytes(self.old)
 
     def writer(self, name="once.csv"):
-        return [VECQ, "add", self.file, self.folder / name, "--multi"]
+        return [VECQ, "add", self.file, self.folder / name, *ADDING]
 
     def started(self, name="once.csv", **more):
         return subprocess.Popen(self.writer(name), stdout=subprocess.PIPE, stderr=subprocess.PIPE, **more)
@@ -66,7 +69,7 @@ def check_after_a_kill(checks, house, what, right=("old", "once")):
     """Old or new, whole, and the next writer goes on, whatever was left."""
     which = house.which()
     checks.that(f"{what}: the file", which in right, which)
-    ran = house.folder.vecq("add", "games.vecq", "once.csv" if which == "old" else "twice.csv", "--multi")
+    ran = house.folder.vecq("add", "games.vecq", "once.csv" if which == "old" else "twice.csv", *ADDING)
     checks.that(f"{what}: the next writer", ran.status == 0, ran)
     checks.equal(f"{what}: the next file", house.which(), "once" if which == "old" else "twice")
     checks.equal(f"{what}: nothing is left", house.left(), [])
@@ -202,7 +205,7 @@ def two_at_once(checks, house):
 
 # Another refusal than that of a held lock ends it.
 UNTIL_LET = """
-until "$1" add sum.vecq "$2.csv" --multi >/dev/null 2>"$2.err"; do
+until "$1" add sum.vecq "$2.csv" --year 2036 --multi >/dev/null 2>"$2.err"; do
     status=$?
     [ $status -eq 4 ] && grep -q 'another writer' "$2.err" || exit 9
     sleep 0.01
@@ -229,7 +232,7 @@ def readers_meanwhile(checks, house):
     house.reset()
     stop, going = time.time() + 0.5, house.folder / "going"
     going.touch()
-    writing = 'while [ -e going ]; do "$1" add games.vecq once.csv --keyed >/dev/null; done'
+    writing = 'while [ -e going ]; do "$1" add games.vecq once.csv --year 2036 --keyed --present 2036 >/dev/null; done'
     writers = subprocess.Popen(["bash", "-c", writing, "bash", VECQ], cwd=house.folder.path)
     while time.time() < stop:
         ran = house.folder.vecq("info", "games.vecq")
@@ -241,13 +244,13 @@ def readers_meanwhile(checks, house):
 def a_slow_pipe(checks, house):
     """Vectors and scripts that are slow to come keep no other writer out."""
     row = (house.folder / "twice.csv").read_bytes()
-    for words, slow in ((["add", "games.vecq", "-", "--multi"], row), (["edit", "games.vecq"], b"add twice.csv --multi\n")):
+    for words, slow in ((["add", "games.vecq", "-", *ADDING], row), (["edit", "games.vecq"], b"add twice.csv --year 2036 --multi\n")):
         house.reset()
         waiting = subprocess.Popen([VECQ, *words], cwd=house.folder.path, stdin=subprocess.PIPE, stdout=subprocess.PIPE, stderr=subprocess.PIPE)
         waiting.stdin.write(slow[:1])
         waiting.stdin.flush()
         time.sleep(0.05)
-        ran = house.folder.vecq("add", "games.vecq", "once.csv", "--multi")
+        ran = house.folder.vecq("add", "games.vecq", "once.csv", *ADDING)
         checks.equal(f"a writer beside a waiting {words[0]}", (ran.status, house.which()), (0, "once"))
         waiting.communicate(slow[1:])
         checks.equal(f"the waiting {words[0]}", (waiting.returncode, house.which()), (0, "twice"))
@@ -259,12 +262,12 @@ def a_held_lock(checks, house):
     lock = house.folder / "games.vecq.lock"
     with open(lock, "w") as held:
         fcntl.flock(held, fcntl.LOCK_EX)
-        ran = house.folder.vecq("add", "games.vecq", "once.csv", "--multi")
+        ran = house.folder.vecq("add", "games.vecq", "once.csv", *ADDING)
         checks.equal("a held lock", (ran.status, ran.out, ran.err), (4, "", "vecq: games.vecq: another writer is at work on it\n"))
         checks.equal("a held lock: the file", house.which(), "old")
         checks.equal("a held lock, reading", house.folder.vecq("check", "games.vecq").status, 0)
     (house.folder / "games.vecq.new").write_bytes(b"left by a killed writer")
-    ran = house.folder.vecq("add", "games.vecq", "once.csv", "--multi")
+    ran = house.folder.vecq("add", "games.vecq", "once.csv", *ADDING)
     checks.equal("a lock and a new file that were left", (ran.status, house.which(), house.left()), (0, "once", []))
 
 
@@ -272,10 +275,10 @@ FULL = """
 mount -t tmpfs -o size=$3 none "$1" || exit 90
 cp "$2"/games.vecq "$2"/once.csv "$1" && cd "$1" || exit 91
 echo old >list; dd if=/dev/zero of=filler bs=1k count=100000 2>/dev/null; truncate -s -8k filler
-"$4" add games.vecq once.csv --multi 2>err; echo "add $?"; cat err; cmp games.vecq "$2/games.vecq" && echo same
+"$4" add games.vecq once.csv --year 2036 --multi 2>err; echo "add $?"; cat err; cmp games.vecq "$2/games.vecq" && echo same
 "$4" find games.vecq once.csv --keyed -k 1000 -o list 2>err; echo "find $?"; cat err; cat list
 rm err; ls
-rm filler; "$4" add games.vecq once.csv --multi >/dev/null 2>&1; echo "again $?"; cmp games.vecq "$2/once.vecq" && echo done
+rm filler; "$4" add games.vecq once.csv --year 2036 --multi >/dev/null 2>&1; echo "again $?"; cmp games.vecq "$2/once.vecq" && echo done
 """
 
 
@@ -319,7 +322,7 @@ def outputs_that_fail(checks, house):
     house.reset()
     commands = ("info games.vecq", "info games.vecq --slots", "find games.vecq once.csv --keyed", "find games.vecq once.csv --keyed --format json -k 3000",
                 "keys games.vecq", "score games.vecq once.csv --keyed --slot 0", "help", "version")
-    house.folder.done("add", "games.vecq", "once.csv", "--multi")
+    house.folder.done("add", "games.vecq", "once.csv", *ADDING)
     for words in commands:
         for name, opened in (("a full device", lambda: open("/dev/full", "wb")), ("a closed pipe", closed_pipe)):
             with opened() as output:
@@ -346,7 +349,7 @@ def a_folder_that_is_read_only(checks, house):
     os.chmod(folder.path, 0o755)
     os.chmod(shelf, 0o555)
     user = {"user": 65534} if os.getuid() == 0 else {}
-    ran = Ran(subprocess.run(["./vecq", "add", "shelf/games.vecq", "once.csv", "--multi"], capture_output=True, cwd=folder.path, **user))
+    ran = Ran(subprocess.run(["./vecq", "add", "shelf/games.vecq", "once.csv", *ADDING], capture_output=True, cwd=folder.path, **user))
     checks.that("a read-only folder", ran.status == 4 and ran.err.startswith("vecq: ") and "Permission denied (os error 13)" in ran.err, ran)
     checks.equal("a read-only folder: the file", ((shelf / "games.vecq").read_bytes() == house.old, os.listdir(shelf)), (True, ["games.vecq"]))
     ran = Ran(subprocess.run(["./vecq", "info", "shelf/games.vecq"], capture_output=True, cwd=folder.path, **user))
@@ -360,14 +363,14 @@ def links_and_modes(checks, house):
     for mode in (0o600, 0o640, 0o664, 0o400):
         house.reset()
         os.chmod(house.file, mode)
-        folder.done("add", "games.vecq", "once.csv", "--multi")
+        folder.done("add", "games.vecq", "once.csv", *ADDING)
         checks.equal(f"mode {mode:o}", (stat.S_IMODE(os.stat(house.file).st_mode), house.which()), (mode, "once"))
         os.chmod(house.file, 0o644)
     links = {"link.vecq": "games.vecq", "shelf/link.vecq": "../games.vecq", "shelf/far.vecq": str(house.file), "chain.vecq": "shelf/link.vecq"}
     for name, target in links.items():
         house.reset()
         os.symlink(target, folder / name)
-        folder.done("add", name, "once.csv", "--multi")
+        folder.done("add", name, "once.csv", *ADDING)
         pointed_to = os.readlink(folder / name) if os.path.islink(folder / name) else None
         checks.equal(f"a link {name}", (pointed_to, house.which(), house.left()), (target, "once", []))
     checks.equal("nothing is left beside links", sorted(os.listdir(shelf)), ["far.vecq", "link.vecq"])
@@ -393,7 +396,7 @@ def making(checks, house):
     for name in ("games.vecq", "folder", "missing"):
         (house.folder / "folder").mkdir(exist_ok=True)
         if name != "games.vecq":
-            checks.equal(f"add to {name}", house.folder.vecq("add", name, "once.csv", "--multi").status, 4)
+            checks.equal(f"add to {name}", house.folder.vecq("add", name, "once.csv", *ADDING).status, 4)
             checks.that(f"add to {name}: nothing is left", not [n for n in house.folder.names() if n.startswith(f"{name}.")], house.folder.names())
 
 

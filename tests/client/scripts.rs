@@ -14,19 +14,23 @@ const HISTORIES: usize = 25;
 const CALLS: usize = 100;
 
 /// The program is lent arrays of one length for a script, the crate lengthens its own: so no index here has more slots, and no slot more bytes than 512.
-const LEND: &str = "lend 8000 40 40 40 40 1 8000 40";
+const LEND: &str = "lend 8000 40 40 40 40 1 8000 40 40";
 const MOST_SLOTS: usize = 60;
 const DIMS: [usize; 12] = [1, 2, 3, 4, 5, 7, 8, 9, 16, 17, 33, 100];
 /// Few, so that they clash.
 const KEYS: [u64; 8] = [0, 1, 2, 7, 1 << 32, 1 << 63, u64::MAX - 1, u64::MAX];
+
+/// Mostly without a duty, so that slots go, too. The last one is past each present year.
+const YEARS: [u16; 10] = [1, 1, 1, 1, 0, 2, 0x0102, 2030, 2030, u16::MAX];
+const PRESENTS: [u16; 6] = [0, 1, 2, 0x0201, 2029, 2030];
 
 /// The program's words for the calls that the crate has.
 const CALL_WORDS: [&str; 22] = [
     "new", "working", "residual", "bits", "enable", "add", "add_keyed", "add_multi", "relabel", "remove", "remove_at", "compact", "key_of", "contains",
     "slot_at", "score", "search", "search_keyed", "search_cascade", "length", "write", "read",
 ];
-/// Document 01's numbers that calls drawn here can have: 8 needs 65,536 slots, 13 arrays that misfit.
-const NUMBERS: [u8; 17] = [1, 2, 3, 4, 5, 6, 7, 9, 11, 12, 14, 15, 16, 17, 18, 19, 20];
+/// The numbers of documents 01 and 02 that calls drawn here can have: 8 needs 65,536 slots, 13 arrays that misfit.
+const NUMBERS: [u8; 18] = [1, 2, 3, 4, 5, 6, 7, 9, 11, 12, 14, 15, 16, 17, 18, 19, 20, 21];
 
 pub fn check(exercise: &Path, folder: &Path) {
     std::fs::create_dir_all(folder).expect("the folder of scripts is made");
@@ -60,16 +64,17 @@ fn answered(exercise: &Path, path: &Path, lines: &[Line]) -> Vec<String> {
     String::from_utf8_lossy(&output.stdout).lines().map(|line| shown(line).unwrap_or(line.to_string())).collect()
 }
 
-/// Of the record and the arrays that the program prints, what the crate shows: the record, and each slot's key with its place in held order.
+/// Of the record and the arrays that the program prints, what the crate shows: the record, and each slot's key with its place in held order, and its year.
 fn shown(line: &str) -> Option<String> {
     let (record, arrays) = line.strip_prefix("record ")?.split_once(" codes ")?;
     let array = |name: &str| arrays.split(&format!(" {name} ")).nth(1)?.split(' ').next();
-    let (keys, keyed, held) = (array("keys")?, array("keyed")?, array("held")?);
+    let (keys, keyed, held, years) = (array("keys")?, array("keyed")?, array("held")?, array("years")?);
     let slots = usize::from_str_radix(record.split(' ').nth(5)?, 16).ok()?;
-    let slot = |i: usize| match &keyed[i..i + 1] {
-        "1" => format!(" {}:{}", &keys[16 * i..16 * (i + 1)], &held[8 * i..8 * (i + 1)]),
-        _ => " -".to_string(),
+    let key = |i: usize| match &keyed[i..i + 1] {
+        "1" => format!("{}:{}", &keys[16 * i..16 * (i + 1)], &held[8 * i..8 * (i + 1)]),
+        _ => "-".to_string(),
     };
+    let slot = |i: usize| format!(" {}:{}", key(i), &years[4 * i..4 * (i + 1)]);
     Some(format!("record {record}{}", (0..slots).map(slot).collect::<String>()))
 }
 
@@ -103,6 +108,8 @@ struct Script {
     random: Random,
     index: Index,
     keys: Vec<u64>,
+    /// whether slots have years other than 1 in this history
+    duties: bool,
     /// vectors that were drawn in this history, for equal scores
     vectors: Vec<Vec<f32>>,
     /// files that were written
@@ -135,7 +142,8 @@ fn slots(hits: Vec<Hit>) -> String {
 impl Script {
     fn drawn(seed: u64) -> Script {
         let index = Index::new(1, 0).expect("an index is made");
-        let mut script = Script { random: Random::new(seed), index, keys: Vec::new(), vectors: Vec::new(), files: Vec::new(), lines: Vec::new() };
+        let (random, keys, vectors, files, lines) = (Random::new(seed), Vec::new(), Vec::new(), Vec::new(), Vec::new());
+        let mut script = Script { random, index, keys, duties: false, vectors, files, lines };
         for _ in 0..HISTORIES {
             script.start();
             for _ in 0..CALLS {
@@ -162,12 +170,12 @@ impl Script {
         let answer = format!("record {shape} {} {:x} {:x} {}", flags.0, index.slots(), index.live(), flags.1);
         let held = index.held().expect("there is memory");
         same::check("held slots rise by key and place", held.is_sorted(), || format!("{held:?}"));
-        let slots = index.keys().enumerate().map(|(slot, key)| match (key, held.iter().find(|held| held.slot as usize == slot)) {
-            (Some(key), Some(held)) if held.key == key => format!(" {key:016x}:{:08x}", held.position),
-            (None, None) => " -".to_string(),
-            other => format!(" {other:?}"),
+        let keys = index.keys().enumerate().map(|(slot, key)| match (key, held.iter().find(|held| held.slot as usize == slot)) {
+            (Some(key), Some(held)) if held.key == key => format!("{key:016x}:{:08x}", held.position),
+            (None, None) => "-".to_string(),
+            other => format!("{other:?}"),
         });
-        let answer = answer + &slots.collect::<String>();
+        let answer = answer + &keys.zip(index.years()).map(|(key, year)| format!(" {key}:{year:04x}")).collect::<String>();
         self.note("dump".to_string(), Ok(answer));
     }
 
@@ -189,6 +197,7 @@ impl Script {
     fn start(&mut self) {
         self.note(LEND.to_string(), Ok("ok".to_string()));
         self.keys = (0..4).map(|_| self.pick(&KEYS)).collect();
+        self.duties = !self.rarely(3);
         self.vectors.clear();
         if self.rarely(3) {
             self.refused_making();
@@ -270,6 +279,11 @@ impl Script {
         }
     }
 
+    /// In a history without duties, whose files have no years, always 1.
+    fn year(&mut self) -> u16 {
+        if self.duties { self.pick(&YEARS) } else { 1 }
+    }
+
     fn key(&mut self) -> u64 {
         let at = self.below(self.keys.len());
         if self.rarely(12) { self.random.word() } else { self.keys[at] }
@@ -315,23 +329,24 @@ impl Script {
     }
 
     fn adding(&mut self) {
-        let (key, v) = (self.key(), self.vector());
+        let (key, v, year, present) = (self.key(), self.vector(), self.year(), self.pick(&PRESENTS));
+        let entries = vector(&v);
         let (asked, answer) = match self.below(5) {
-            0 => (format!("add {}", vector(&v)), self.index.add(&v)),
-            1 | 2 => (format!("add_keyed {key:x} {}", vector(&v)), self.index.add_keyed(key, &v)),
-            _ => (format!("add_multi {key:x} {}", vector(&v)), self.index.add_keyed_multi(key, &v)),
+            0 => (format!("add {entries} {year:x}"), self.index.add(&v, year)),
+            1 | 2 => (format!("add_keyed {key:x} {entries} {year:x} {present:x}"), self.index.add_keyed(key, &v, year, present)),
+            _ => (format!("add_multi {key:x} {entries} {year:x}"), self.index.add_keyed_multi(key, &v, year)),
         };
         self.note(asked, answer.map(slot));
     }
 
     fn changing(&mut self) {
-        let (key, other, slot) = (self.key(), self.key(), self.slot());
+        let (key, other, slot, present) = (self.key(), self.key(), self.slot(), self.pick(&PRESENTS));
         // Mostly the key that the slot has.
         let owner = self.index.key_of(slot).ok().flatten().filter(|_| !self.rarely(4)).unwrap_or(key);
         let (asked, answer) = match self.below(8) {
             0 | 1 => (format!("relabel {key:x} {other:x}"), self.index.relabel(key, other).map(yes)),
-            2 => (format!("remove {key:x}"), self.index.remove_keyed(key).map(yes)),
-            3 | 4 => (format!("remove_at {owner:x} {slot:x}"), self.index.remove_keyed_at(owner, slot).map(yes)),
+            2 => (format!("remove {key:x} {present:x}"), self.index.remove_keyed(key, present).map(yes)),
+            3 | 4 => (format!("remove_at {owner:x} {slot:x} {present:x}"), self.index.remove_keyed_at(owner, slot, present).map(yes)),
             5 => ("compact".to_string(), self.index.compact().map(ok)),
             _ if self.index.bits() != 4 && !self.rarely(10) => ("compact".to_string(), self.index.compact().map(ok)),
             _ => ("enable".to_string(), self.index.enable_cascade().map(ok)),
@@ -384,6 +399,7 @@ impl Script {
         let written = self.index.to_bytes();
         if let Ok(file) = &written {
             self.check_halves(file);
+            self.check_years(file);
             self.files.truncate(11);
             self.files.insert(0, file.clone());
         }
@@ -400,6 +416,18 @@ impl Script {
         }
     }
 
+    /// Where no slot is dead, the years that the crate shows are those of the file, or the file has none and all are 1.
+    fn check_years(&self, file: &[u8]) {
+        if self.index.live() == self.index.slots() {
+            let years: Vec<u16> = self.index.years().collect();
+            let duties = years.iter().any(|&year| year != 1);
+            same::equal("a version with years", Index::version(file).map(|version| version >= 262), Ok(duties));
+            let block = file.len() - 2 * years.len();
+            let stated: Vec<u16> = file[block..].chunks_exact(2).map(|year| u16::from_le_bytes([year[0], year[1]])).collect();
+            same::check("years", !duties || years == stated, || format!("{years:?}, and the file has {stated:?}"));
+        }
+    }
+
     fn reading(&mut self) {
         let at = self.below(self.files.len() + 2);
         let mut file = if at < self.files.len() { self.files[at].clone() } else { self.made_up() };
@@ -413,13 +441,14 @@ impl Script {
         self.record();
     }
 
-    /// A file of a version that the library writes; some have a scale that is no number.
+    /// A file of a version that the library writes; some have a scale that is no number. With years it may be one that is written back without.
     fn made_up(&mut self) -> Vec<u8> {
-        let (version, width) = self.pick(&[(259, 4), (260, 4), (261, 4), (261, 5), (261, 6)]);
+        let (version, width) = self.pick(&[(259, 4), (260, 4), (261, 4), (261, 5), (261, 6), (262, 4), (263, 4), (264, 4), (264, 5), (264, 6)]);
         let count = self.below(12) as u32;
         let mut stated = Stated::new(version, self.pick(&DIMS) as u32, width, count);
         stated.working_dim = if self.rarely(3) { 1 + self.random.below(stated.dim as u64) as u16 } else { 0 };
         stated.keys = (0..count).filter(|_| !self.rarely(3)).collect::<Vec<u32>>().into_iter().map(|slot| (slot, self.key())).collect();
+        stated.years = (0..count).map(|_| self.year()).collect();
         if self.rarely(8) {
             let slot = self.random.below(count as u64 + 2) as u32;
             stated.keys.push((slot, 1));
@@ -441,7 +470,7 @@ impl Script {
             1 => file.truncate(length - 1 - self.below(16)),
             2 => file.extend((0..1 + self.below(5)).map(|_| 0xA5)),
             3 => {
-                let version = self.pick(&[0u16, 1, 2, 256, 257, 258, 259, 260, 261, 262]);
+                let version = self.pick(&[0u16, 1, 2, 256, 257, 258, 259, 260, 261, 262, 263, 264, 265]);
                 file[4..6].copy_from_slice(&version.to_le_bytes());
             }
             4 => {
@@ -459,7 +488,7 @@ impl Script {
             7 => file[self.below(4)] ^= 0x20,
             8 if length > 24 => file[24] = self.pick(&[0, 3, 4, 5, 6, 7]),
             _ => {
-                // Behind the count: the width byte, scales, codes, key entries.
+                // Behind the count: the width byte, scales, codes, key entries, years.
                 let at = 24 + self.below(length - 24);
                 file[at] = self.random.word() as u8;
             }

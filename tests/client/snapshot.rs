@@ -7,6 +7,8 @@ pub struct Snapshot {
     shape: (usize, usize, u64, u8, bool),
     counts: (usize, usize, bool),
     keys: Vec<Option<u64>>,
+    /// Those of dead slots too, which the file doesn't have.
+    years: Vec<u16>,
     /// The slots of each key in held order, which the file doesn't have.
     held: Vec<Vec<u32>>,
     /// Slots and score bits.
@@ -27,6 +29,7 @@ impl Snapshot {
             counts: (index.slots(), index.live(), index.is_cascade_enabled()),
             held: different.iter().map(|&key| held(index, key)).collect(),
             keys,
+            years: index.years().collect(),
             lists: [index.search(&query, index.live()).map(bits), index.search_cascade(&query, index.live(), 1).map(bits)],
         }
     }

@@ -67,7 +67,7 @@ fn add(name: &str) -> Done {
     let mut index = Index::new(vectors.first().map_or(1, Vec::len), 1)?;
     index.reserve(vectors.len())?;
     for (vector, key) in vectors.iter().zip(keys.lines()) {
-        index.add_keyed(key.parse()?, vector)?;
+        index.add_keyed(key.parse()?, vector, 1, 1)?;
     }
     println!("{:.3}", began.elapsed().as_secs_f64());
     Ok(())

@@ -5,7 +5,7 @@ use vecq::MOST_SLOTS;
 
 pub fn check() {
     let kinds: [fn(u32) -> Vec<(u32, u64)>; 3] = [|_| Vec::new(), one_key, scattered_keys];
-    for (version, width) in [(259, 4), (260, 4), (261, 5), (261, 6)] {
+    for (version, width) in [(262, 4), (260, 4), (261, 5), (264, 6)] {
         for keys in kinds {
             let mut stated = Stated::new(version, 32, width, MOST_SLOTS as u32);
             stated.keys = keys(stated.count);

@@ -70,24 +70,37 @@ def listing(file):
     return subprocess.run([LISTING], input=file, capture_output=True, check=True).stdout.decode()
 
 
+# All that `exercise` holds.
+LEND = "lend 100000 1000 1000 1000 1000 40 100000 1000 1000"
+
+
 def reading(file):
     """The lines that have `exercise` read a file."""
-    return ["lend 100000 1000 1000 1000 1000 40 100000 1000", f"read {file.hex()}"]
+    return [LEND, f"read {file.hex()}"]
 
 
 def vector(patterns):
     return "".join(f"{pattern:08x}" for pattern in patterns) or "-"
 
 
+def without_years(file, version, live):
+    """A file as it would be were its years all 1, and the years (Req 06: a version 3 above, and 16 bits a slot at the end)."""
+    if version < 262:
+        return file, (1,) * live
+    block = len(file) - 2 * live
+    return file[:4] + struct.pack("<H", version - 3) + file[6:block], struct.unpack(f"<{live}H", file[block:])
+
+
 class Head:
-    """What a file states of itself, by document 01."""
+    """What a file states of itself, by documents 01 and 02."""
 
     def __init__(self, file):
         self.version, working, self.dim, self.seed, self.live = struct.unpack_from("<HHIQI", file, 4)
         self.working = working or self.dim
-        self.bits = file[24] if self.version == 261 else 4
-        self.residual = self.version == 260
-        rows = [line.split(" ") for line in listing_by_01(file).splitlines()[1:]]
+        self.bits = file[24] if self.version in (261, 264) else 4
+        self.residual = self.version in (260, 263)
+        older, self.years = without_years(file, self.version, self.live)
+        rows = [line.split(" ") for line in listing_by_01(older).splitlines()[1:]]
         self.keys = {int(slot): key for slot, key, _ in rows if key != "-"}
 
 

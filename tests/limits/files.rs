@@ -15,6 +15,7 @@ fn elsewhere(width: Width, room: usize) -> Raw {
     let mut ours = data::filled(DIM, width, 3, room);
     ours.arrays.keyed[0] = true;
     ours.arrays.held.fill(9);
+    ours.arrays.years.fill(9);
     // Bits at or above the slots in use too: reading clears them.
     ours.arrays.alive.fill(u64::MAX);
     ours
@@ -51,7 +52,8 @@ fn whole(width: Width, kind: Keys) {
         like(&what, &read, rust.as_ref());
         let block = data::block_size(DIM, width.bits());
         let kept = read.arrays.codes[MOST_SLOTS * block..] == before.codes[MOST_SLOTS * block..] && read.arrays.scales[MOST_SLOTS..] == before.scales[MOST_SLOTS..];
-        same::check(&what, kept, || "places past the slots changed".to_string());
+        same::check(&what, kept && read.arrays.years[MOST_SLOTS..] == before.years[MOST_SLOTS..], || "places past the slots changed".to_string());
+        same::check(&what, read.arrays.years[..MOST_SLOTS].iter().all(|&year| year == 1), || "a file without years gave others than 1".to_string());
         let mut again = vec![0; length];
         same::equal(&what, read.to_bytes(&mut again), Ok(length));
         same::check(&what, again == right, || "the file read and written again differs".to_string());

@@ -1,5 +1,5 @@
 //! The static library at the limits of document 01, with the Rust as judge where the document has it compared, and a model of document 02's sentences where the
-//! Rust stops at games with one trait or has no such marks. Any difference makes the status 1.
+//! Rust stops at games with one trait or has no such marks or years. Any difference makes the status 1.
 mod adds;
 mod files;
 mod kept;
@@ -7,6 +7,7 @@ mod marks;
 mod results;
 mod sizes;
 mod traits;
+mod years;
 
 // The oracle's files have the Rust core under this name.
 extern crate vecq_scalar as vecq;
@@ -39,7 +40,7 @@ use std::time::Instant;
 pub const MOST_SLOTS: usize = 65_536;
 pub const MOST_DIM: usize = 4096;
 
-const PARTS: [(&str, fn()); 13] = [
+const PARTS: [(&str, fn()); 18] = [
     ("65,536 adds one after another, and one more", adds::one_after_another),
     ("the last two adds under each kind of keys, places freed by compaction", adds::the_last),
     ("a record of 65,537 slots over long arrays", adds::past_the_most),
@@ -53,6 +54,11 @@ const PARTS: [(&str, fn()); 13] = [
     ("bits at or above the slots in use, past the 1,024th word too", marks::stray),
     ("such bits cleared by making and reading", marks::cleared),
     ("live marks after a compaction, in more words than needed", marks::compacted),
+    ("years of the last slots that are added", years::added),
+    ("65,536 slots of a key, one to be kept", years::removed),
+    ("65,536 slots of a key, the first one overwritten", years::overwritten),
+    ("years after a compaction", years::compacted),
+    ("files of 65,536 slots with years", years::files),
 ];
 
 fn main() -> ExitCode {

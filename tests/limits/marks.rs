@@ -1,5 +1,5 @@
 //! The words of live marks (document 02, Req 02): 65,536 slots in 1,024 words, in more and in one fewer; bits that are set at or above the slots in use.
-use crate::data::{self, first_marks, mark, set_mark, Keys, Width, MARKS, WIDTHS};
+use crate::data::{self, first_marks, mark, set_mark, Keys, Width, MARKS, WIDTHS, YEAR};
 use crate::kept::{like, refused};
 use crate::random::Random;
 use crate::rust::SCALAR;
@@ -36,12 +36,12 @@ fn all_refused(what: &str, ours: &mut Raw) {
     let (mut slots, mut names, mut scores, mut file) = (vec![7; 10], vec![7; 10], vec![7.0; 10], vec![7; 1 << 21]);
     refused(what, ours, 13, |o| o.set_bits(4));
     refused(what, ours, 13, |o| o.enable_cascade());
-    refused(what, ours, 13, |o| o.add(&vector));
-    refused(what, ours, 13, |o| o.add_keyed(7, &vector));
-    refused(what, ours, 13, |o| o.add_keyed_multi(7, &vector));
+    refused(what, ours, 13, |o| o.add(&vector, YEAR));
+    refused(what, ours, 13, |o| o.add_keyed(7, &vector, YEAR, YEAR));
+    refused(what, ours, 13, |o| o.add_keyed_multi(7, &vector, YEAR));
     refused(what, ours, 13, |o| o.relabel(7, 8));
-    refused(what, ours, 13, |o| o.remove_keyed(7));
-    refused(what, ours, 13, |o| o.remove_keyed_at(7, 0));
+    refused(what, ours, 13, |o| o.remove_keyed(7, YEAR));
+    refused(what, ours, 13, |o| o.remove_keyed_at(7, 0, YEAR));
     refused(what, ours, 13, |o| o.compact());
     refused(what, ours, 13, |o| o.key_of(0));
     refused(what, ours, 13, |o| o.contains_key(7));
@@ -64,22 +64,22 @@ pub fn most_slots() {
             let what = format!("width {}, {words} words", width.name());
             let mut ours = index(width, MOST_SLOTS - 1, MOST_SLOTS + 4, words);
             let mut rust = (SCALAR.index_of)(&ours);
-            same::equal(&what, ours.add(&vector), Ok(rust.add(&vector)));
+            same::equal(&what, ours.add(&vector, YEAR), Ok(rust.add(&vector)));
             like(&what, &ours, rust.as_ref());
             words_are(&what, &ours, &first_marks(MOST_SLOTS, words));
-            refused(&what, &mut ours, 8, |o| o.add(&vector));
-            refused(&what, &mut ours, 8, |o| o.add_keyed(2, &vector));
+            refused(&what, &mut ours, 8, |o| o.add(&vector, YEAR));
+            refused(&what, &mut ours, 8, |o| o.add_keyed(2, &vector, YEAR, YEAR));
             // The borders of the last word, then a compaction.
             let mut marks = first_marks(MOST_SLOTS, words);
             for slot in [0, 63, 64, MOST_SLOTS - 65, MOST_SLOTS - 64, MOST_SLOTS - 2] {
-                same::equal(&what, ours.remove_keyed_at(Keys::Rising.of(slot), slot), Ok(true));
+                same::equal(&what, ours.remove_keyed_at(Keys::Rising.of(slot), slot, YEAR), Ok(true));
                 set_mark(&mut marks, slot, false);
                 words_are(&what, &ours, &marks);
             }
-            same::equal(&what, ours.remove_keyed(Keys::Rising.of(MOST_SLOTS - 3)), Ok(true));
+            same::equal(&what, ours.remove_keyed(Keys::Rising.of(MOST_SLOTS - 3), YEAR), Ok(true));
             same::equal(&what, ours.compact(), Ok(()));
             words_are(&what, &ours, &first_marks(MOST_SLOTS - 7, words));
-            same::equal(&what, ours.add(&vector), Ok(MOST_SLOTS - 7));
+            same::equal(&what, ours.add(&vector, YEAR), Ok(MOST_SLOTS - 7));
             words_are(&what, &ours, &first_marks(MOST_SLOTS - 6, words));
         }
         let what = format!("width {}, a word fewer than the slots in use need", width.name());
@@ -91,9 +91,9 @@ pub fn most_slots() {
             refused(&what, &mut ours, 20, |o| o.from_bytes(&file));
         }
         let mut ours = index(width, MOST_SLOTS - 64, MOST_SLOTS, WORDS - 1);
-        refused("room by words", &mut ours, 8, |o| o.add(&vector));
+        refused("room by words", &mut ours, 8, |o| o.add(&vector, YEAR));
         ours.arrays.alive.push(0);
-        same::equal("a word more", ours.add(&vector), Ok(MOST_SLOTS - 64));
+        same::equal("a word more", ours.add(&vector, YEAR), Ok(MOST_SLOTS - 64));
         words_are("a word more", &ours, &first_marks(MOST_SLOTS - 63, WORDS));
     }
 }

@@ -1,5 +1,5 @@
 //! As many entries as there may be.
-use crate::data::{self, Keys, Width, WIDTHS};
+use crate::data::{self, Keys, Width, WIDTHS, YEAR};
 use crate::kept::{like, refused};
 use crate::sys::{self, Raw, CASCADE};
 use crate::random::Random;
@@ -59,9 +59,9 @@ fn every_call(width: Width, working: usize) {
     for i in 0..SLOTS as u64 {
         let v = vector();
         match i % 3 {
-            0 => same::equal(&what, ours.add(&v), Ok(rust.add(&v))),
-            1 => same::equal(&what, ours.add_keyed(i % 8, &v), Ok(rust.add_keyed(i % 8, &v))),
-            _ => same::equal(&what, ours.add_keyed_multi(1, &v), Ok(rust.add_keyed_multi(1, &v))),
+            0 => same::equal(&what, ours.add(&v, YEAR), Ok(rust.add(&v))),
+            1 => same::equal(&what, ours.add_keyed(i % 8, &v, YEAR, YEAR), Ok(rust.add_keyed(i % 8, &v))),
+            _ => same::equal(&what, ours.add_keyed_multi(1, &v, YEAR), Ok(rust.add_keyed_multi(1, &v))),
         }
         like(&what, &ours, rust.as_ref());
     }

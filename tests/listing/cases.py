@@ -8,8 +8,9 @@ import sys
 
 from expected import listing
 
-# those that are read
-VERSIONS = (257, 258, 259, 260, 261)
+# those that are read; those with a key table, with a width byte, with a residual, with years
+VERSIONS = tuple(range(257, 265))
+KEYED, WIDE, RESIDUAL, DATED = VERSIONS[2:], (261, 264), (260, 263), VERSIONS[5:]
 
 
 def block_size(working, width):
@@ -23,18 +24,20 @@ def table(entries):
     return struct.pack("<I", len(entries)) + b"".join(struct.pack("<IQ", slot, key) for slot, key in entries)
 
 
-def make(version, dim=1, working=0, width=4, scales=(), entries=(), count=None, magic=b"VECQ"):
-    """A file in the form that its version has, the scales as patterns, those of version 1 as binary32. `count` states another number of slots than there are scales."""
+def make(version, dim=1, working=0, width=4, scales=(), entries=(), count=None, magic=b"VECQ", years=(2027, 1, 0, 65535)):
+    """A file in the form that its version has, the scales as patterns, those of version 1 as binary32. `count` states another number of slots than there are scales;
+    `years` come in turn."""
     n = len(scales)
     head = magic + struct.pack("<HHIQI", version, working, dim, 0x0123456789ABCDEF, n if count is None else count)
-    if version == 261:
+    if version in WIDE:
         head += bytes([width])
     used = dim if working == 0 or version in (1, 257) else working
-    codes = bytes(i % 251 for i in range(n * block_size(used, width if version == 261 else 4)))
+    codes = bytes(i % 251 for i in range(n * block_size(used, width if version in WIDE else 4)))
     first = struct.pack(f"<{n}I" if version == 1 else f"<{n}H", *scales) + codes
     # the residual's scales are others: they aren't listed
-    second = bytes(b ^ 0x55 for b in first) if version == 260 else b""
-    return head + first + second + (table(entries) if version >= 259 else b"")
+    second = bytes(b ^ 0x55 for b in first) if version in RESIDUAL else b""
+    dates = struct.pack(f"<{n}H", *(years[i % len(years)] for i in range(n))) if version in DATED else b""
+    return head + first + second + (table(entries) if version >= 259 else b"") + dates
 
 
 def given():
@@ -53,10 +56,14 @@ def given():
         field = 5 if version == 257 else 3
         yield f"version {version}, working_dim 3", make(version, 5, 3, scales=halves[:2]), f"{version} 5 {field} 4 2\n" + lines[:18]
         yield f"version {version}, bytes after the end", make(version, 2, scales=one) + b"\xde\xad", None
-    for width in (4, 5, 6):
-        yield f"width {width}", make(261, 7, width=width, scales=halves), f"261 7 7 {width} {len(halves)}\n{lines}"
+    for version in WIDE:
+        for width in (4, 5, 6):
+            yield f"version {version}, width {width}", make(version, 7, width=width, scales=halves), f"{version} 7 7 {width} {len(halves)}\n{lines}"
+    for version in DATED:
+        for years in ((1,), (0,), (65535, 1)):
+            yield f"version {version}, years {years}", make(version, 5, scales=halves, years=years), f"{version} 5 5 4 {len(halves)}\n{lines}"
     keys = ((4, 2**64 - 1), (0, 7), (3, 0), (1, 7))
-    for version in (259, 260, 261):
+    for version in KEYED:
         text = f"{version} 5 3 4 6\n0 7 3B9A\n1 7 7D01\n2 - FE05\n3 0 0001\n4 18446744073709551615 8000\n5 - 7C00\n"
         yield f"version {version}, keys that don't rise, one on two slots", make(version, 5, 3, scales=halves[:6], entries=keys) + b"\xde\xad", text
 
@@ -66,35 +73,43 @@ def given():
     yield "another name, 23 bytes", make(261, scales=one, magic=b"VECX")[:23], 14
     yield "another name", make(261, scales=one, magic=b"VECX"), 15
     yield "another name and version", make(2, scales=one, magic=b"vecq"), 15
-    for version in (0, 1, 2, 256, 262, 265, 65535):
+    for version in (0, 1, 2, 256, 265, 266, 65535):
         yield f"version {version}", make(version, scales=one), 16
-    yield "another version, working_dim over dim", make(262, 1, 2, scales=one), 16
+    yield "another version, working_dim over dim", make(265, 1, 2, scales=one), 16
     yield from version_1()
-    for version in (258, 259, 260, 261):
+    for version in VERSIONS[1:]:
         yield f"version {version}, working_dim over dim", make(version, 1, 2, scales=one), 17
-    yield "working_dim over dim, no width byte", make(261, 1, 2, scales=one)[:24], 17
-    yield "no width byte", make(261, scales=one)[:24], 14
-    for width in (0, 3, 7, 8, 255):
-        yield f"width {width}", make(261, width=width, scales=one), 18
-    yield "width 7, dim 4,097", make(261, 4097, width=7), 18
+    for version in WIDE:
+        yield f"version {version}, working_dim over dim, no width byte", make(version, 1, 2, scales=one)[:24], 17
+        yield f"version {version}, no width byte", make(version, scales=one)[:24], 14
+        for width in (0, 3, 7, 8, 255):
+            yield f"version {version}, width {width}", make(version, width=width, scales=one), 18
+        yield f"version {version}, width 7, dim 4,097", make(version, 4097, width=7), 18
     for version in VERSIONS:
         yield f"version {version}, dim 4,097", make(version, 4097), 20
-        yield f"version {version}, a block short", make(version, 2, scales=one, count=2)[:24 + (version == 261) + 3], 14
+        yield f"version {version}, a block short", make(version, 2, scales=one, count=2)[:24 + (version in WIDE) + 3], 14
         yield f"version {version}, dim 0", make(version, 0, scales=one), 17
         yield f"version {version}, dim 0, a block short", make(version, 0, scales=one)[:24], 14
     yield "65,537 slots", make(259, count=65537), 20
-    whole = make(260, 2, scales=one)
-    for size in range(27, len(whole)):
-        yield f"version 260, {size} bytes", whole[:size], 14
+    for version in RESIDUAL:
+        whole = make(version, 2, scales=one)
+        for size in range(27, len(whole)):
+            yield f"version {version}, {size} bytes", whole[:size], 14
     yield "dim 0, the rest missing", make(260, 0, scales=one)[:27], 17
-    whole = make(261, scales=one, entries=((0, 1),))
-    for size in range(28, len(whole)):
-        yield f"version 261, {size} bytes", whole[:size], 14
-    for version in (259, 260, 261):
+    for version in (261, 262, 264):
+        whole = make(version, scales=one, entries=((0, 1),))
+        for size in range(28, len(whole)):
+            yield f"version {version}, {size} bytes", whole[:size], 14
+    for version in KEYED:
         yield f"version {version}, a key for a slot that isn't there", make(version, scales=one, entries=((1, 7),)), 19
         yield f"version {version}, two keys for a slot", make(version, scales=one * 2, entries=((1, 7), (0, 7), (1, 7))), 19
     yield "two keys for a slot, one of them missing", make(259, scales=one, entries=((0, 1), (0, 2)))[:-1], 14
     yield "2^32 - 1 key entries", make(259, scales=one)[:-4] + b"\xff" * 4, 14
+    for version in DATED:
+        whole = make(version, scales=one * 2, entries=((2, 7),))
+        yield f"version {version}, 19 with all its years", whole, 19
+        for missing in (1, 2, 3, 4):
+            yield f"version {version}, 19 and {missing} bytes of years missing", whole[:-missing], 14
 
     # ---- limits: slots, code bytes, file bytes
     longest = [(i, 2**64 - 1 - i) for i in range(1024)]
@@ -120,7 +135,7 @@ def given():
         yield f"version {version}, 200,000 bytes", short.ljust(200000, b"\0"), 20
         yield f"version {version}, 65,537 bytes, dim 0", make(version, 0, scales=one).ljust(65537, b"\0"), 20
     yield "65,537 bytes, another name", make(261, magic=b"VECX").ljust(65537, b"\0"), 15
-    yield "65,537 bytes, another version", make(262).ljust(65537, b"\0"), 16
+    yield "65,537 bytes, another version", make(265).ljust(65537, b"\0"), 16
     yield "65,537 bytes, working_dim over dim", make(258, 1, 2).ljust(65537, b"\0"), 17
     yield "65,537 bytes, width 7", make(261, width=7).ljust(65537, b"\0"), 18
 
@@ -159,7 +174,8 @@ def drawn(count):
         if slots and draw.random() < 0.1:
             slots.append(draw.choice(slots))
         entries = [(slot, draw.choice((0, 7, draw.getrandbits(64)))) for slot in slots]
-        file = bytearray(make(version, dim, working, draw.choice((4, 5, 6)), scales, entries))
+        years = [draw.choice((0, 1, 1, 2027, draw.getrandbits(16))) for _ in range(n or 1)]
+        file = bytearray(make(version, dim, working, draw.choice((4, 5, 6)), scales, entries, years=years))
         kind = draw.randrange(4)
         if kind == 1:
             del file[draw.randrange(len(file) + 1):]

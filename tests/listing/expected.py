@@ -11,14 +11,14 @@ def listing(b):
     if b[:4] != b"VECQ":
         return "15\n"
     version, field, dim, seed, n = struct.unpack_from("<HHIQI", b, 4)
-    if version not in (257, 258, 259, 260, 261):
+    if not 257 <= version <= 264:
         return "16\n"
     if version == 257:
         field = 0
     if field > dim:
         return "17\n"
     working, width, at = field or dim, 4, 24
-    if version == 261:
+    if version in (261, 264):
         if len(b) < 25:
             return "14\n"
         width, at = b[24], 25
@@ -36,7 +36,7 @@ def listing(b):
         return "14\n"
     if dim == 0:
         return "17\n"
-    if version == 260:
+    if version in (260, 263):
         at += n * (2 + block)
     if len(b) < at:
         return "14\n"
@@ -45,7 +45,9 @@ def listing(b):
         if len(b) < at + 4:
             return "14\n"
         (entries,) = struct.unpack_from("<I", b, at)
-        if len(b) < at + 4 + entries * 12:
+        # 02, Req 06: "one year per live slot, in slot order, after the key table"; "A year block cut short is 14, with the rest". It isn't listed.
+        years = 2 * n if version >= 262 else 0
+        if len(b) < at + 4 + entries * 12 + years:
             return "14\n"
         for slot, key in struct.iter_unpack("<IQ", b[at + 4 : at + 4 + entries * 12]):
             if slot >= n or slot in keys:

@@ -92,7 +92,7 @@ fn marks(words: &str, n: usize) -> Option<String> {
 /// A dump cut down to the record and the slots in use, without the word of `keys` where there is no key.
 fn in_use(answer: &str) -> Option<Vec<String>> {
     let fields: Vec<&str> = answer.split(' ').collect();
-    if fields.len() != 25 || fields[0] != "record" {
+    if fields.len() != 27 || fields[0] != "record" {
         return None;
     }
     let number = |at: usize| usize::from_str_radix(fields[at], 16).ok();
@@ -106,7 +106,7 @@ fn in_use(answer: &str) -> Option<Vec<String>> {
     let keys: String = (0..n).filter(|&slot| &keyed[slot..slot + 1] == "1").filter_map(|slot| fields[14].get(16 * slot..16 * slot + 16)).collect();
     let mut parts: Vec<&str> = fields[..9].to_vec();
     let marks = marks(fields[20], n)?;
-    parts.extend([part(10, digits)?, part(12, 8)?, &keys, keyed, part(18, 8)?, &marks]);
+    parts.extend([part(10, digits)?, part(12, 8)?, &keys, keyed, part(18, 8)?, &marks, part(26, 4)?]);
     if residual {
         parts.extend([part(22, digits)?, part(24, 8)?]);
     }

@@ -1,11 +1,13 @@
 //! What the Rust answers to a script of the program `exercise`, line by line, and which lines are outside the comparison (docs/COMPARISON.md).
 use crate::choice::{chosen, has_minus_zero, order_number};
 use crate::halves::{reading, subnormal};
+use crate::head::Head;
 use crate::language::{self, Call, Line};
 use crate::model::{block_size, dump, fits, Arrays, Record, MOST_DIM, MOST_IN_USE};
 use crate::one_trait;
 use crate::text::{bytes, eight};
 use crate::twin;
+use crate::years;
 use std::cell::Cell;
 use std::cmp::Reverse;
 use std::fmt;
@@ -34,6 +36,10 @@ pub enum Reason {
     OneTrait,
     /// bytes 4 and 5 of a file state version 1, which the Rust reads (document 02, Req 07)
     VersionOne,
+    /// a live slot has a year other than 1, before the call or after it (document 02, Req 06)
+    OtherYears,
+    /// bytes 4 and 5 of a file state 262, 263 or 264, which the Rust does not know (document 02, Req 06)
+    YearFile,
     /// `set` or `field` led where no call of the Rust does
     Poked,
 }
@@ -50,6 +56,8 @@ impl fmt::Display for Reason {
             Reason::MinusZero => write!(f, "a score is -0"),
             Reason::OneTrait => write!(f, "one trait at 4 bits"),
             Reason::VersionOne => write!(f, "version 1"),
+            Reason::OtherYears => write!(f, "a year other than 1"),
+            Reason::YearFile => write!(f, "a file with years"),
             Reason::Poked => write!(f, "set by hand"),
         }
     }
@@ -68,6 +76,14 @@ impl Answer {
     pub fn text(&self) -> &str {
         match self {
             Answer::Rust(text) | Answer::Language(text) | Answer::Outside(_, text) => text,
+        }
+    }
+
+    /// "The Rust comparison covers indexes with all years 1". Over others the Rust is asked all the same, since the years touch little of what it answers.
+    fn outside_if(self, other_years: bool) -> Self {
+        match self {
+            Answer::Rust(text) if other_years => Answer::Outside(Reason::OtherYears, text),
+            answer => answer,
         }
     }
 }
@@ -182,12 +198,16 @@ impl Driver {
                 self.poked = true;
                 ok()
             }
-            Line::Dump if self.follow() => Answer::Rust(dump(&self.record, &self.arrays)),
+            Line::Dump if self.follow() => Answer::Rust(dump(&self.record, &self.arrays)).outside_if(self.has_other_years()),
             Line::Dump => Answer::Outside(Reason::Poked, dump(&self.record, &self.arrays)),
             Line::Making { dim, working, seed, residual } => self.make(dim, working, seed, residual),
             Line::Read(file) => self.read(&file),
             Line::Call(_) if !self.follow() => lacks(13),
-            Line::Call(call) => self.call(call),
+            Line::Call(call) => {
+                let before = self.has_other_years();
+                let answer = self.call(call);
+                answer.outside_if(before || self.has_other_years())
+            }
         }
     }
 
@@ -201,6 +221,15 @@ impl Driver {
             self.settle();
         }
         fit
+    }
+
+    /// The years of the live slots, in slot order; those of dead ones count for nothing.
+    fn live_years(&self) -> Vec<u16> {
+        (0..self.record.n).filter(|&slot| self.arrays.mark(slot)).map(|slot| self.arrays.years[slot]).collect()
+    }
+
+    fn has_other_years(&self) -> bool {
+        self.live_years().iter().any(|&year| year != 1)
     }
 
     /// Record and arrays become those of the Rust's index.
@@ -232,47 +261,66 @@ impl Driver {
         if file.get(4..6) == Some(&[1, 0]) {
             return refused(Reason::VersionOne, version_one(file));
         }
-        if self.too_large(file) {
-            return lacks(20);
+        if let Some(before) = years::without_years(file) {
+            return Answer::Outside(Reason::YearFile, self.read_with_years(&before));
         }
-        let index = match tried(|| VecqIndex::from_bytes(file)) {
-            Some(Ok(index)) => index,
-            Some(Err(error)) => return says(&format!("refused {}", number_of(&error))),
+        let index = match self.reading(file) {
+            Ok(index) => index,
+            Err(answer) => return answer,
+        };
+        // "Older files read as year 1 throughout."
+        let years = vec![1; index.n];
+        if self.take(index, file, &years) { Answer::Outside(Reason::SubnormalHalf, "ok".to_string()) } else { says("ok") }
+    }
+
+    /// A file of 262 to 264, its version already the one 3 below. "A year block cut short is 14, with the rest": so before 19, the last test.
+    fn read_with_years(&mut self, file: &[u8]) -> String {
+        match self.reading(file) {
+            Ok(index) => match years::years_in(file) {
+                Some(years) => {
+                    self.take(index, file, &years);
+                    "ok".to_string()
+                }
+                None => "refused 14".to_string(),
+            },
+            Err(answer) if answer.text() == "refused 19" && years::years_in(file).is_none() => "refused 14".to_string(),
+            Err(answer) => answer.text().to_string(),
+        }
+    }
+
+    /// The index that the Rust reads, or the refusal.
+    fn reading(&self, file: &[u8]) -> Result<VecqIndex, Answer> {
+        if self.too_large(file) {
+            return Err(lacks(20));
+        }
+        match tried(|| VecqIndex::from_bytes(file)) {
+            Some(Ok(index)) => Ok(index),
+            Some(Err(error)) => Err(says(&format!("refused {}", number_of(&error)))),
             // The Rust stops at dim 0, and at a 260 file that ends before its key count.
-            None if file[8..12] == [0; 4] => return refused(Reason::Stops, 17),
+            None if file[8..12] == [0; 4] => Err(refused(Reason::Stops, 17)),
             None => {
                 assert_eq!(file[4..6], 260u16.to_le_bytes(), "the Rust stops for another reason");
-                return refused(Reason::Stops, 14);
+                Err(refused(Reason::Stops, 14))
             }
-        };
+        }
+    }
+
+    /// The index that was read becomes the one that is there; whether a scale was repaired.
+    fn take(&mut self, index: VecqIndex, file: &[u8], years: &[u16]) -> bool {
         self.index = index;
         let repaired = repair_scales(&mut self.index, file);
         self.poked = false;
-        self.arrays.keys[..self.index.n].fill(0);
+        self.arrays.keys[..years.len()].fill(0);
+        self.arrays.years[..years.len()].copy_from_slice(years);
         self.settle();
-        if repaired { Answer::Outside(Reason::SubnormalHalf, "ok".to_string()) } else { says("ok") }
+        repaired
     }
 
     /// 20, after document 01's 14, 15, 16, 17, 14 (width byte) and 18.
     fn too_large(&self, file: &[u8]) -> bool {
-        if file.len() < 24 || &file[..4] != b"VECQ" {
-            return false;
-        }
-        let long = |at: usize| u32::from_le_bytes(file[at..at + 4].try_into().expect("four bytes")) as usize;
-        let short = |at: usize| u16::from_le_bytes([file[at], file[at + 1]]);
-        let (version, dim, count) = (short(4), long(8), long(20));
-        let working = match version {
-            257 => dim,
-            258..=261 if short(6) == 0 => dim,
-            258..=261 if short(6) as usize <= dim => short(6) as usize,
-            _ => return false,
-        };
-        let bits = match version {
-            261 if file.len() == 24 || !(4..=6).contains(&file[24]) => return false,
-            261 => file[24],
-            _ => 4,
-        };
-        dim > MOST_DIM || count > MOST_IN_USE || count > self.arrays.capacity(block_size(working, bits), version == 260)
+        Head::of(file).is_some_and(|head| {
+            head.dim > MOST_DIM || head.count > MOST_IN_USE || head.count > self.arrays.capacity(head.block_size(), head.residual)
+        })
     }
 
     // ---- calls of the index that is there: no misfit
@@ -280,13 +328,16 @@ impl Driver {
     fn call(&mut self, call: Call) -> Answer {
         match call {
             Call::Bits(width) => self.set_bits(width),
-            Call::Add(v) => self.append(&v, None, |index, v| index.add(v)),
-            Call::AddKeyed(key, v) if self.index.contains_key(key) => self.overwrite(key, &v),
-            Call::AddKeyed(key, v) => self.append(&v, Some(key), |index, v| index.add_keyed(key, v)),
-            Call::AddMulti(key, v) => self.append(&v, Some(key), |index, v| index.add_keyed_multi(key, v)),
+            Call::Add { vector, year } => self.append(&vector, None, year, |index, v| index.add(v)),
+            Call::AddKeyed { key, vector, year, present } if self.index.contains_key(key) => self.overwrite(key, &vector, year, present),
+            Call::AddKeyed { key, vector, year, .. } => self.append(&vector, Some(key), year, |index, v| index.add_keyed(key, v)),
+            Call::AddMulti { key, vector, year } => self.append(&vector, Some(key), year, |index, v| index.add_keyed_multi(key, v)),
             Call::Relabel(old, new) => self.change(|index| index.relabel(old, new)),
-            Call::Remove(key) => self.change(|index| index.remove_keyed(key)),
-            Call::RemoveAt(key, slot) => self.change(|index| index.remove_keyed_at(key, slot)),
+            Call::Remove { key, present } => self.remove(&twin::held_by(&self.index, key), present, |index| index.remove_keyed(key)),
+            Call::RemoveAt { key, slot, present } => {
+                let taken: Vec<usize> = twin::held_by(&self.index, key).into_iter().filter(|&held| held == slot).collect();
+                self.remove(&taken, present, |index| index.remove_keyed_at(key, slot))
+            }
             Call::KeyOf(slot) => match self.index.key_of(slot) {
                 Some(key) => says(&format!("key {key:x}")),
                 None => says("none"),
@@ -309,12 +360,16 @@ impl Driver {
             }
             Call::SearchCascade { k, r, places, query } => self.search_cascade(k, r, places, &query),
             Call::Compact => self.compact(),
-            Call::Length => says(&format!("length {:x}", self.index.to_bytes().len())),
+            Call::Length => says(&format!("length {:x}", self.file().len())),
             Call::Write(places) => {
-                let file = self.index.to_bytes();
+                let file = self.file();
                 if places < file.len() { lacks(13) } else { says(&format!("bytes {}", bytes(&file))) }
             }
         }
+    }
+
+    fn file(&self) -> Vec<u8> {
+        years::with_years(self.index.to_bytes(), &self.live_years())
     }
 
     /// Whether the Rust stops, as is seen on a copy.
@@ -350,7 +405,7 @@ impl Driver {
         if ended { Answer::Outside(Reason::WidthCall, "ok".to_string()) } else { says("ok") }
     }
 
-    fn append(&mut self, v: &[f32], key: Option<u64>, call: impl FnOnce(&mut VecqIndex, &[f32]) -> usize) -> Answer {
+    fn append(&mut self, v: &[f32], key: Option<u64>, year: u16, call: impl FnOnce(&mut VecqIndex, &[f32]) -> usize) -> Answer {
         if let Some(number) = fault(&self.record, v) {
             return self.faulty(number, |index| call(index, v));
         }
@@ -361,17 +416,35 @@ impl Driver {
         let slot = call(&mut self.index, v);
         // The word of an unkeyed append is 0.
         self.arrays.keys[n] = key.unwrap_or(0);
+        self.arrays.years[n] = year;
         self.settle();
         says(&format!("slot {slot:x}"))
     }
 
-    fn overwrite(&mut self, key: u64, v: &[f32]) -> Answer {
+    /// "21 when a live slot that .. an overwrite would write" is to be kept: that is the first held.
+    fn overwrite(&mut self, key: u64, v: &[f32], year: u16, present: u16) -> Answer {
         if let Some(number) = fault(&self.record, v) {
             return self.faulty(number, |index| index.add_keyed(key, v));
         }
+        if self.keeps(&twin::held_by(&self.index, key)[..1], present) {
+            return lacks(21);
+        }
         let slot = self.index.add_keyed(key, v);
+        self.arrays.years[slot] = year;
         self.settle();
         says(&format!("slot {slot:x}"))
+    }
+
+    /// 21 of any slot that would be taken, before one is touched. Where none would be, the Rust answers no.
+    fn remove(&mut self, taken: &[usize], present: u16, call: impl FnOnce(&mut VecqIndex) -> bool) -> Answer {
+        if self.keeps(taken, present) {
+            return lacks(21);
+        }
+        self.change(call)
+    }
+
+    fn keeps(&self, slots: &[usize], present: u16) -> bool {
+        slots.iter().any(|&slot| years::is_kept(self.arrays.years[slot], present))
     }
 
     fn change(&mut self, call: impl FnOnce(&mut VecqIndex) -> bool) -> Answer {
@@ -384,9 +457,11 @@ impl Driver {
         let alive = self.index.alive.clone();
         let met = alive.contains(&false);
         self.index.compact();
-        // The word of `keys` moves with its slot; past the slots in use all stays.
-        let words: Vec<u64> = (0..alive.len()).filter(|&slot| alive[slot]).map(|slot| self.arrays.keys[slot]).collect();
-        self.arrays.keys[..words.len()].copy_from_slice(&words);
+        // The word of `keys` and the year move with their slot; past the slots in use all stays.
+        for (to, from) in (0..alive.len()).filter(|&slot| alive[slot]).enumerate() {
+            self.arrays.keys[to] = self.arrays.keys[from];
+            self.arrays.years[to] = self.arrays.years[from];
+        }
         let moved = met && self.index.residual;
         if moved {
             twin::move_residual(&mut self.index, &alive);

@@ -6,6 +6,8 @@ use crate::model::{block_size, MARKS};
 use crate::random::Random;
 use crate::text::{bytes, vector};
 
+mod retention;
+
 #[derive(Default)]
 struct Tally {
     rust: usize,
@@ -68,6 +70,12 @@ impl Fixed {
         answer.text().to_string()
     }
 
+    /// The same where the answer is known by hand.
+    fn stated(&mut self, line: impl Into<String>, answer: &str) {
+        let line = line.into();
+        assert_eq!(self.either(line.clone()), answer, "{line}: two readings");
+    }
+
     fn told_all(&mut self, lines: &[&str], answer: &str) {
         lines.iter().for_each(|&line| self.told(line, answer));
     }
@@ -79,7 +87,7 @@ impl Fixed {
 
     /// The same, but for so many words of live marks.
     fn lend_words(&mut self, slots: usize, block: usize, words: usize) {
-        let lengths = [slots * block, slots, slots, slots, slots, words, slots * block, slots];
+        let lengths = [slots * block, slots, slots, slots, slots, words, slots * block, slots, slots];
         self.ask(format!("lend {}", lengths.map(|n| format!("{n:x}")).join(" ")));
     }
 }
@@ -124,6 +132,7 @@ pub fn list() -> List {
     word_borders(&mut fixed);
     compacted_words(&mut fixed);
     marks_by_hand(&mut fixed);
+    retention::sections(&mut fixed);
     no_misfits(&mut fixed);
     histories(&mut fixed);
     twins(&mut fixed);
@@ -144,12 +153,17 @@ fn nth(dim: usize, number: u64) -> String {
     if entries.iter().all(|&x| x == 0.0) { v(&vec![1.0; dim]) } else { v(&entries) }
 }
 
+/// A call that adds: its vector, year 1, and the present year if it is told one.
+fn adding(call: &str, vector: &str) -> String {
+    format!("{call} {vector} 1{}", if call.starts_with("add_keyed") { " 7ea" } else { "" })
+}
+
 /// Five of the calls of an index that is there, others at each turn, so that each comes often. The first test is the same in all of them.
 fn some_calls(turn: usize) -> Vec<String> {
     let w = nth(4, 0);
-    let plain = ["bits 4", "relabel 7 9", "relabel 7 7", "remove 7", "remove_at 7 0", "key_of 0", "contains 7", "slot_at 7 0", "enable", "compact"];
+    let plain = ["bits 4", "relabel 7 9", "relabel 7 7", "remove 7 1", "remove_at 7 0 7ea", "key_of 0", "contains 7", "slot_at 7 0", "enable", "compact"];
     let mut lines: Vec<String> = plain.map(str::to_string).to_vec();
-    lines.extend([format!("add {w}"), format!("add_keyed 7 {w}"), format!("add_keyed 5 {w}"), format!("add_multi 7 {w}")]);
+    lines.extend([format!("add {w} 1"), format!("add_keyed 7 {w} 1 ffff"), format!("add_keyed 5 {w} 1 0"), format!("add_multi 7 {w} 1")]);
     (0..5).map(|i| lines[(5 * turn + i) % lines.len()].clone()).collect()
 }
 
@@ -157,9 +171,9 @@ fn some_calls(turn: usize) -> Vec<String> {
 
 fn start(f: &mut Fixed) {
     f.section("the start: every array lent with length 0, the record that of new(1, 0)");
-    f.asks(&["dump", "contains 0", "key_of 0", "slot_at 0 0", "remove 0", "remove_at 0 0", "relabel 0 1", "compact", "bits 4", "enable", "dump"]);
+    f.asks(&["dump", "contains 0", "key_of 0", "slot_at 0 0", "remove 0 1", "remove_at 0 0 7ea", "relabel 0 1", "compact", "bits 4", "enable", "dump"]);
     f.label("no room: 8");
-    f.told("add 3f800000", "refused 8");
+    f.told("add 3f800000 1", "refused 8");
     f.label("ours: an accepted width call ends the cascade");
     f.told("bits 5", "ok");
     f.ask("dump");
@@ -177,30 +191,30 @@ fn examples(f: &mut Fixed) {
     f.ask("new 4 1");
     f.label("1: 3 entries, dim 4");
     for call in ["add", "add_keyed 7", "add_multi 7"] {
-        f.told(format!("{call} {}", v(&[1.0, 2.0, 3.0])), "refused 1");
+        f.told(adding(call, &v(&[1.0, 2.0, 3.0])), "refused 1");
     }
     f.label("2: 0,0,0,0");
     for call in ["add", "add_keyed 7", "add_multi 7"] {
-        f.told(format!("{call} {}", v(&[0.0; 4])), "refused 2");
+        f.told(adding(call, &v(&[0.0; 4])), "refused 2");
     }
     f.label("5: width 7");
     f.told("bits 7", "refused 5");
     f.label("11: 5 bits");
     f.told("enable", "refused 11");
     f.label("6: width set with one slot in use");
-    f.ask(format!("add {}", v(&[1.0, 2.0, 3.0, 4.0])));
+    f.ask(format!("add {} 1", v(&[1.0, 2.0, 3.0, 4.0])));
     f.told("bits 4", "refused 6");
     f.label("8: capacity 2, third add");
-    f.ask("lend 6 2 2 2 2 1 0 0");
+    f.ask("lend 6 2 2 2 2 1 0 0 2");
     f.ask("new 4 1");
-    f.ask(format!("add {}", v(&[1.0, 2.0, 3.0, 4.0])));
-    f.ask(format!("add_keyed 7 {}", v(&[4.0, 3.0, 2.0, 1.0])));
-    f.told(format!("add {}", v(&[1.0; 4])), "refused 8");
+    f.ask(format!("add {} 1", v(&[1.0, 2.0, 3.0, 4.0])));
+    f.ask(format!("add_keyed 7 {} 1 ffff", v(&[4.0, 3.0, 2.0, 1.0])));
+    f.told(format!("add {} 1", v(&[1.0; 4])), "refused 8");
     f.ask("dump");
     f.label("3: 1e30, 0");
     f.ask("new 2 1");
     for call in ["add", "add_keyed 7", "add_multi 7"] {
-        f.told(format!("{call} {}", v(&[1.0e30, 0.0])), "refused 3");
+        f.told(adding(call, &v(&[1.0e30, 0.0])), "refused 3");
     }
     f.label("7: residual, width 5");
     f.lend(2, 4);
@@ -209,14 +223,14 @@ fn examples(f: &mut Fixed) {
     f.told("bits 6", "refused 7");
     f.ask("bits 4");
     f.label("13: arrays lent anew under a live slot");
-    f.ask("lend 2 1 1 1 1 1 2 1");
+    f.ask("lend 2 1 1 1 1 1 2 1 1");
     f.ask("residual 4 1");
-    f.ask(format!("add_keyed 7 {}", v(&[1.0, 2.0, 3.0, 4.0])));
-    f.ask("lend 2 1 1 1 1 1 2 0");
+    f.ask(format!("add_keyed 7 {} 1 0", v(&[1.0, 2.0, 3.0, 4.0])));
+    f.ask("lend 2 1 1 1 1 1 2 0 1");
     f.told("contains 7", "refused 13");
     f.label("its worked example: dim 1, seed 1, width 5, 3.0 added unkeyed");
     f.lend(1, 1);
-    f.asks(&["new 1 1", "add 40400000", "dump"]);
+    f.asks(&["new 1 1", "add 40400000 1", "dump"]);
 }
 
 // ---- sizes
@@ -226,19 +240,19 @@ fn short_history(f: &mut Fixed, dim: usize, making: &str, width: u8, residual: b
     let w = |number| nth(dim, number);
     f.ask(making);
     f.ask(format!("bits {width:x}"));
-    f.ask(format!("add_keyed 7 {}", w(1)));
-    f.ask(format!("add {}", w(2)));
-    f.ask(format!("add_multi 7 {}", w(3)));
-    f.ask(format!("add_keyed 7 {}", w(4)));
+    f.ask(format!("add_keyed 7 {} 1 1", w(1)));
+    f.ask(format!("add {} 1", w(2)));
+    f.ask(format!("add_multi 7 {} 1", w(3)));
+    f.ask(format!("add_keyed 7 {} 1 7ea", w(4)));
     f.ask("dump");
-    f.ask("remove_at 7 0");
+    f.ask("remove_at 7 0 ffff");
     if residual {
         // Ours: codes2 and scales2 move with their slots.
         f.told("compact", "ok");
     } else {
         f.ask("compact");
     }
-    f.ask(format!("add_keyed 8 {}", w(5)));
+    f.ask(format!("add_keyed 8 {} 1 0", w(5)));
     f.ask("dump");
 }
 
@@ -266,7 +280,7 @@ fn large(f: &mut Fixed) {
         f.lend(1, block);
         for making in [format!("new {dim:x} 0"), format!("residual {dim:x} 1"), format!("working {dim:x} {:x} 2", dim / 2 + 1)] {
             f.ask(making);
-            f.ask(format!("add_keyed ffffffffffffffff {}", nth(dim, 1)));
+            f.ask(format!("add_keyed ffffffffffffffff {} 1 1", nth(dim, 1)));
             f.ask("dump");
         }
     }
@@ -293,77 +307,77 @@ fn keys(f: &mut Fixed) {
     f.ask("new 3 5");
     questions(f);
     for (number, key) in ["7", "7", "7", "8", "ffffffffffffffff"].iter().enumerate() {
-        f.ask(format!("add_multi {key} {}", w[number]));
+        f.ask(format!("add_multi {key} {} 1", w[number]));
     }
-    f.ask(format!("add {}", w[5]));
+    f.ask(format!("add {} 1", w[5]));
     questions(f);
     f.label("add_keyed on a key with several slots overwrites the first held");
-    f.ask(format!("add_keyed 7 {}", w[6]));
+    f.ask(format!("add_keyed 7 {} 1 7ea", w[6]));
     f.ask("dump");
     f.label("held 0, 1, 2 less 0 is 2, 1");
-    f.ask("remove_at 7 0");
+    f.ask("remove_at 7 0 ffff");
     questions(f);
-    f.ask(format!("add_keyed 7 {}", w[7]));
+    f.ask(format!("add_keyed 7 {} 1 0", w[7]));
     f.ask("dump");
     f.label("single removal: another key's slot, a dead slot, an unkeyed one, one past those in use");
-    f.asks(&["remove_at 8 1", "remove_at 7 0", "remove_at 7 5", "remove_at 7 6", "remove_at 7 ffffffffffffffff", "remove_at 5 0"]);
+    f.asks(&["remove_at 8 1 1", "remove_at 7 0 7ea", "remove_at 7 5 ffff", "remove_at 7 6 0", "remove_at 7 ffffffffffffffff 1", "remove_at 5 0 7ea"]);
     f.label("relabelling: an unknown key, onto a held one, onto itself, of several slots");
     f.asks(&["relabel 5 6", "relabel 5 5", "relabel 7 8", "relabel 8 7", "relabel 7 7", "relabel 7 0", "relabel 8 7"]);
     questions(f);
     f.label("compaction restores rising order");
     f.asks(&["compact", "dump", "slot_at 0 0", "slot_at 0 1", "compact", "dump"]);
     f.label("removal of all slots of a key");
-    f.asks(&["remove 0", "remove 0", "remove 5"]);
+    f.asks(&["remove 0 ffff", "remove 0 0", "remove 5 1"]);
     questions(f);
-    f.asks(&["remove_at 7 2", "remove ffffffffffffffff"]);
+    f.asks(&["remove_at 7 2 7ea", "remove ffffffffffffffff ffff"]);
     questions(f);
-    f.ask(format!("add_keyed 7 {}", w[8]));
-    f.asks(&["compact", "dump", "remove 7", "compact", "dump"]);
+    f.ask(format!("add_keyed 7 {} 1 0", w[8]));
+    f.asks(&["compact", "dump", "remove 7 1", "compact", "dump"]);
     f.label("every slot dead, then none in use");
     f.lend(3, 3);
     f.ask("new 3 5");
-    f.ask(format!("add_keyed 1 {}", w[9]));
-    f.ask(format!("add_keyed 2 {}", w[10]));
-    f.asks(&["remove 1", "remove 2", "dump", "contains 1", "compact", "dump", "bits 6"]);
-    f.ask(format!("add_keyed 1 {}", w[11]));
+    f.ask(format!("add_keyed 1 {} 1 7ea", w[9]));
+    f.ask(format!("add_keyed 2 {} 1 ffff", w[10]));
+    f.asks(&["remove 1 0", "remove 2 1", "dump", "contains 1", "compact", "dump", "bits 6"]);
+    f.ask(format!("add_keyed 1 {} 1 7ea", w[11]));
     f.ask("dump");
 }
 
 fn room(f: &mut Fixed) {
     f.section("room: 8 and what is no 8, for each array that is the shortest");
     let (w, x) = (nth(2, 1), nth(2, 2));
-    for short in [0, 1, 2, 3, 4, 6, 7] {
+    for short in [0, 1, 2, 3, 4, 6, 7, 8] {
         // Three slots, but for one array, which holds two; a word of live marks holds 64. At 4 bits a slot of dim 2 has one byte.
-        let lengths: Vec<String> = (0..8).map(|i| if i == 5 { 1 } else if i == short { 2 } else { 3 }).map(|n| n.to_string()).collect();
+        let lengths: Vec<String> = (0..9).map(|i| if i == 5 { 1 } else if i == short { 2 } else { 3 }).map(|n| n.to_string()).collect();
         f.ask(format!("lend {}", lengths.join(" ")));
         f.ask("residual 2 3");
-        f.ask(format!("add_multi 7 {w}"));
-        f.ask(format!("add_multi 7 {x}"));
+        f.ask(format!("add_multi 7 {w} 1"));
+        f.ask(format!("add_multi 7 {x} 1"));
         for call in ["add", "add_keyed 8", "add_multi 7"] {
-            f.told(format!("{call} {w}"), "refused 8");
+            f.told(adding(call, &w), "refused 8");
         }
         f.label("an overwrite needs no room");
-        f.ask(format!("add_keyed 7 {w}"));
+        f.ask(format!("add_keyed 7 {w} 1 ffff"));
     }
     f.label("residual arrays count only if residual");
-    f.asks(&["lend 2 2 2 2 2 1 0 0", "new 2 3", "bits 4"]);
-    f.ask(format!("add_keyed 7 {w}"));
-    f.ask(format!("add_keyed 8 {x}"));
-    f.told(format!("add {w}"), "refused 8");
+    f.asks(&["lend 2 2 2 2 2 1 0 0 2", "new 2 3", "bits 4"]);
+    f.ask(format!("add_keyed 7 {w} 1 0"));
+    f.ask(format!("add_keyed 8 {x} 1 1"));
+    f.told(format!("add {w} 1"), "refused 8");
     f.label("places freed by removal serve again after compaction only");
-    f.ask("remove 7");
-    f.told(format!("add {w}"), "refused 8");
+    f.ask("remove 7 7ea");
+    f.told(format!("add {w} 1"), "refused 8");
     f.ask("compact");
-    f.ask(format!("add_keyed 9 {w}"));
+    f.ask(format!("add_keyed 9 {w} 1 ffff"));
     f.ask("dump");
-    f.told(format!("add {w}"), "refused 8");
+    f.told(format!("add {w} 1"), "refused 8");
     f.label("a width for which there is no room: dim 2 in one byte has a slot at 4 bits and none at 5 or 6");
-    f.asks(&["lend 2 1 1 1 1 1 0 0", "new 2 3", "lend 1 1 1 1 1 1 0 0"]);
-    f.told(format!("add {w}"), "refused 8");
+    f.asks(&["lend 2 1 1 1 1 1 0 0 1", "new 2 3", "lend 1 1 1 1 1 1 0 0 1"]);
+    f.told(format!("add {w} 1"), "refused 8");
     f.ask("bits 6");
-    f.told(format!("add {w}"), "refused 8");
+    f.told(format!("add {w} 1"), "refused 8");
     f.ask("bits 4");
-    f.ask(format!("add {w}"));
+    f.ask(format!("add {w} 1"));
     f.ask("dump");
 }
 
@@ -385,22 +399,22 @@ fn cascade(f: &mut Fixed) {
     f.told("bits 4", "ok");
     f.asks(&["dump", "enable"]);
     f.label("a refused add doesn't, an accepted one does, an overwrite too");
-    f.told(format!("add {zero}"), "refused 2");
-    f.told(format!("add {}", nth(3, 1)), "refused 1");
+    f.told(format!("add {zero} 1"), "refused 2");
+    f.told(format!("add {} 1", nth(3, 1)), "refused 1");
     f.ask("dump");
-    for line in [format!("add_keyed 7 {}", w[1]), format!("add_keyed 7 {}", w[2]), format!("add_multi 7 {}", w[3]), format!("add {}", w[4])] {
+    for line in [format!("add_keyed 7 {} 1 0", w[1]), format!("add_keyed 7 {} 1 1", w[2]), format!("add_multi 7 {} 1", w[3]), format!("add {} 1", w[4])] {
         f.ask(line);
         f.ask("dump");
         f.ask("enable");
     }
-    f.told(format!("add {}", w[5]), "refused 8");
-    f.told(format!("add_keyed 7 {zero}"), "refused 2");
+    f.told(format!("add {} 1", w[5]), "refused 8");
+    f.told(format!("add_keyed 7 {zero} 1 7ea"), "refused 2");
     f.told("bits 4", "refused 6");
     f.ask("dump");
     f.label("relabelling, removals and questions don't, nor a compaction that meets no dead slot");
-    f.asks(&["relabel 7 8", "relabel 7 8", "contains 8", "slot_at 8 1", "key_of 0", "compact", "dump", "remove_at 8 0", "dump"]);
+    f.asks(&["relabel 7 8", "relabel 7 8", "contains 8", "slot_at 8 1", "key_of 0", "compact", "dump", "remove_at 8 0 ffff", "dump"]);
     f.label("a compaction that meets one does");
-    f.asks(&["compact", "dump", "enable", "remove 8", "dump", "compact", "dump"]);
+    f.asks(&["compact", "dump", "enable", "remove 8 0", "dump", "compact", "dump"]);
     f.label("residual");
     f.ask("residual 4 9");
     f.asks(&["enable", "dump"]);
@@ -420,25 +434,26 @@ fn spare_bits(f: &mut Fixed) {
         for byte in 0..3 * block {
             f.ask(format!("set codes {byte:x} ff"));
         }
-        f.ask(format!("add_keyed 1 {}", nth(dim, 1)));
-        f.ask(format!("add_keyed 2 {}", nth(dim, 2)));
+        f.ask(format!("add_keyed 1 {} 1 1", nth(dim, 1)));
+        f.ask(format!("add_keyed 2 {} 1 7ea", nth(dim, 2)));
         f.ask("dump");
         f.ask(format!("set codes {:x} ff", 2 * block - 1));
-        f.ask(format!("add_keyed 2 {}", nth(dim, 3)));
-        f.asks(&["dump", "remove 1", "compact", "dump"]);
-        f.ask(format!("add {}", nth(dim, 4)));
+        f.ask(format!("add_keyed 2 {} 1 ffff", nth(dim, 3)));
+        f.asks(&["dump", "remove 1 0", "compact", "dump"]);
+        f.ask(format!("add {} 1", nth(dim, 4)));
         f.ask("dump");
     }
     f.label("the residual's too");
     f.lend(2, 1);
     f.ask("residual 1 2");
-    f.asks(&["set codes 0 ff", "set codes2 0 ff", "set codes2 1 ff", "add_keyed 1 3f800000", "dump", "set codes2 0 ff", "add_keyed 1 bf800000", "dump"]);
+    f.asks(&["set codes 0 ff", "set codes2 0 ff", "set codes2 1 ff", "add_keyed 1 3f800000 1 1", "dump"]);
+    f.asks(&["set codes2 0 ff", "add_keyed 1 bf800000 1 7ea", "dump"]);
     f.label("scales that are NaNs move with their signs and fractions");
     f.lend(3, 2);
     f.ask("residual 4 2");
-    f.ask(format!("add_keyed 1 {}", nth(4, 1)));
-    f.ask(format!("add_keyed 2 {}", nth(4, 2)));
-    f.asks(&["set scales 1 ff800001", "set scales2 1 7fffffff", "remove 1"]);
+    f.ask(format!("add_keyed 1 {} 1 ffff", nth(4, 1)));
+    f.ask(format!("add_keyed 2 {} 1 0", nth(4, 2)));
+    f.asks(&["set scales 1 ff800001", "set scales2 1 7fffffff", "remove 1 1"]);
     f.told("compact", "ok");
     f.ask("dump");
 }
@@ -450,30 +465,30 @@ fn vectors(f: &mut Fixed) {
     f.ask("working 4 2 3");
     f.label("past working_dim nothing counts");
     for past in [f32::NAN, inf, -inf, 1.0e30, 0.0, 2f32.powi(-75)] {
-        f.ask(format!("add {}", v(&[1.0, 2.0, past, past])));
+        f.ask(format!("add {} 1", v(&[1.0, 2.0, past, past])));
     }
     f.label("every pattern of a NaN stands for one");
     for nan in ["7fc00000", "ffc00000", "7f800001", "ffffffff"] {
-        f.ask(format!("add 3f80000040000000{nan}{nan}"));
-        f.told(format!("add {nan}3f80000000000000{nan}"), "refused 2");
+        f.ask(format!("add 3f80000040000000{nan}{nan} 1"));
+        f.told(format!("add {nan}3f80000000000000{nan} 1"), "refused 2");
     }
     f.label("2: the sum of squares is zero or a NaN");
     let small = 2f32.powi(-75);
     for v2 in [[0.0, 0.0], [-0.0, 0.0], [small, 0.0], [small, -small], [f32::from_bits(1), 0.0], [f32::NAN, 1.0], [f32::NAN, inf]] {
-        f.told(format!("add {}", v(&[v2[0], v2[1], 1.0, 1.0])), "refused 2");
+        f.told(format!("add {} 1", v(&[v2[0], v2[1], 1.0, 1.0])), "refused 2");
     }
     f.label("3: it is infinite");
     for v2 in [[1.0e30, 0.0], [inf, 0.0], [-inf, 1.0], [f32::MAX, 0.0], [1.5e19, 1.5e19], [0.0, 1.85e19]] {
-        f.told(format!("add {}", v(&[v2[0], v2[1], 1.0, f32::NAN])), "refused 3");
+        f.told(format!("add {} 1", v(&[v2[0], v2[1], 1.0, f32::NAN])), "refused 3");
     }
     f.label("neighbours");
     for v2 in [[2f32.powi(-74), 0.0], [1.8e19, 0.0], [1.2e19, 1.2e19], [f32::from_bits(0x1a35_04f4), 0.0], [1.0, small], [-1.0, 1.0e-30]] {
-        f.ask(format!("add_keyed 1 {}", v(&[v2[0], v2[1], 0.0, 0.0])));
+        f.ask(format!("add_keyed 1 {} 1 7ea", v(&[v2[0], v2[1], 0.0, 0.0])));
     }
     f.ask("dump");
     f.label("1: another length");
     for n in [0, 1, 2, 3, 5, 8, 4097, 17_499] {
-        f.told(format!("add {}", v(&vec![1.0; n])), "refused 1");
+        f.told(format!("add {} 1", v(&vec![1.0; n])), "refused 1");
     }
     f.ask("dump");
 }
@@ -483,10 +498,10 @@ fn vectors(f: &mut Fixed) {
 /// Three slots, the one in the middle dead, each scored by two queries.
 fn scored(f: &mut Fixed, dim: usize, making: &str, width: u8) {
     f.asks(&[making, &format!("bits {width:x}")]);
-    f.ask(format!("add {}", nth(dim, 1)));
-    f.ask(format!("add_keyed 7 {}", nth(dim, 2)));
-    f.ask(format!("add_keyed 8 {}", nth(dim, 3)));
-    f.ask("remove 7");
+    f.ask(format!("add {} 1", nth(dim, 1)));
+    f.ask(format!("add_keyed 7 {} 1 ffff", nth(dim, 2)));
+    f.ask(format!("add_keyed 8 {} 1 0", nth(dim, 3)));
+    f.ask("remove 7 1");
     for slot in 0..3 {
         for query in [1, 4] {
             f.ask(format!("score {slot} {}", nth(dim, query)));
@@ -509,7 +524,7 @@ fn scores(f: &mut Fixed) {
     f.ask("new 4 1");
     f.label("9, document 01's example: slot 3 of 3; and slots past that");
     for number in 1..=3 {
-        f.ask(format!("add {}", nth(4, number)));
+        f.ask(format!("add {} 1", nth(4, number)));
     }
     f.told_all(&[&format!("score 3 {w}"), &format!("score 4 {w}"), &format!("score ffffffffffffffff {w}")], "refused 9");
     f.label("1, 2, 3, before 9");
@@ -567,9 +582,9 @@ fn searches(f: &mut Fixed) {
             f.asks(&[&format!("{making} {dim:x} {:x}", 23 * dim), &format!("bits {width:x}")]);
             for (number, key) in [Some(7), None, Some(8), Some(7), None, Some(9)].into_iter().enumerate() {
                 let w = nth(dim, number as u64);
-                f.ask(key.map_or(format!("add {w}"), |key| format!("add_multi {key:x} {w}")));
+                f.ask(key.map_or(format!("add {w} 1"), |key| format!("add_multi {key:x} {w} 1")));
             }
-            f.ask("remove 8");
+            f.ask("remove 8 7ea");
             if width == 4 {
                 f.ask("enable");
             }
@@ -583,7 +598,7 @@ fn searches(f: &mut Fixed) {
         f.lend(4, block_size(working, 6));
         f.asks(&[&format!("working {dim:x} {working:x} 3"), &format!("bits {width:x}")]);
         for number in 0..4 {
-            f.ask(format!("add_keyed {number:x} {}", nth(dim, number)));
+            f.ask(format!("add_keyed {number:x} {} 1 ffff", nth(dim, number)));
         }
         if width == 4 {
             f.ask("enable");
@@ -600,20 +615,20 @@ fn searches(f: &mut Fixed) {
     for k in [0, 1, 5] {
         search_all(f, k, k, &w, true);
     }
-    f.ask(format!("add_keyed 7 {w}"));
-    f.ask(format!("add_keyed 8 {}", nth(4, 2)));
-    f.asks(&["remove 7", "remove 8", "enable"]);
+    f.ask(format!("add_keyed 7 {w} 1 0"));
+    f.ask(format!("add_keyed 8 {} 1 1", nth(4, 2)));
+    f.asks(&["remove 7 7ea", "remove 8 ffff", "enable"]);
     for k in [0, 1, 5] {
         search_all(f, k, 0, &w, true);
     }
     f.label("padded size 1 at 4 bits: empty, one slot live, one slot dead");
     f.asks(&["new 1 1", "bits 4", "enable"]);
     search_all(f, 1, 1, "40400000", true);
-    f.asks(&["add_keyed 7 40400000", "enable"]);
+    f.asks(&["add_keyed 7 40400000 1 0", "enable"]);
     search_all(f, 1, 1, "40400000", true);
-    f.ask("remove 7");
+    f.ask("remove 7 1");
     search_all(f, 1, 1, "40400000", true);
-    f.asks(&["new 1 1", "bits 5", "add_keyed 7 40400000", "add c0400000"]);
+    f.asks(&["new 1 1", "bits 5", "add_keyed 7 40400000 1 7ea", "add c0400000 1"]);
     search_all(f, 2, 2, "40400000", false);
 }
 
@@ -622,7 +637,7 @@ fn with_scales(f: &mut Fixed, scales: &[u32]) {
     f.lend(scales.len(), 3);
     f.asks(&["new 4 1", "bits 4"]);
     for (slot, scale) in scales.iter().enumerate() {
-        f.ask(format!("add_keyed {:x} {}", slot + 1, nth(4, 1)));
+        f.ask(format!("add_keyed {:x} {} 1 ffff", slot + 1, nth(4, 1)));
         f.ask(format!("set scales {slot:x} {scale:x}"));
     }
     f.ask("enable");
@@ -659,7 +674,7 @@ fn ties(f: &mut Fixed) {
     }
     f.label("the same with slots removed among them");
     with_scales(f, lists[2]);
-    f.asks(&["remove 1", "remove 5", "remove 7"]);
+    f.asks(&["remove 1 0", "remove 5 1", "remove 7 7ea"]);
     for k in 0..=6 {
         search_all(f, k, 1, &nth(4, 1), true);
     }
@@ -671,7 +686,7 @@ fn keyed_searches(f: &mut Fixed) {
     f.ask("new 4 1");
     for (number, key) in [Some(7), None, Some(7), Some(8), None, Some(7), Some(u64::MAX), Some(0)].into_iter().enumerate() {
         let w = nth(4, 60 + number as u64);
-        f.ask(key.map_or(format!("add {w}"), |key| format!("add_multi {key:x} {w}")));
+        f.ask(key.map_or(format!("add {w} 1"), |key| format!("add_multi {key:x} {w} 1")));
     }
     for query in 0..4 {
         for k in 0..=9 {
@@ -681,7 +696,7 @@ fn keyed_searches(f: &mut Fixed) {
     f.label("no key at all");
     f.ask("new 4 1");
     for number in 0..3 {
-        f.ask(format!("add {}", nth(4, number)));
+        f.ask(format!("add {} 1", nth(4, number)));
     }
     f.ask(format!("search_keyed 2 2 {}", nth(4, 1)));
 }
@@ -697,7 +712,7 @@ fn zeros(f: &mut Fixed) {
         f.lend(6, 2);
         f.asks(&[&format!("{making} 2 1"), &format!("bits {width}")]);
         for (slot, key) in [7, 7, 8, 9, 7, 8].into_iter().enumerate() {
-            f.ask(format!("add_multi {key} {vector}"));
+            f.ask(format!("add_multi {key} {vector} 1"));
             f.ask(format!("set scales {slot} {:x}", scales[slot]));
             f.ask(format!("set scales2 {slot} {:x}", scales[slot]));
         }
@@ -723,7 +738,7 @@ fn zeros(f: &mut Fixed) {
             }
         }
         f.label("without slot 3, compacted, then written and read: slot order is the new one");
-        f.asks(&["remove 9"]);
+        f.asks(&["remove 9 ffff"]);
         f.either("compact");
         let rest = "list 0:80000000 1:00000000 2:80000000 3:00000000 4:80000000";
         f.told(format!("search 5 5 {across}"), rest);
@@ -733,7 +748,7 @@ fn zeros(f: &mut Fixed) {
         f.told(format!("search_keyed 5 5 {across}"), "list 7:80000000 8:80000000");
     }
     f.label("a cascade counts its candidates' scores only: the slot of score -0 is none at r 1, and is one at r 2");
-    f.asks(&["new 2 1", "bits 4", &format!("add {vector}"), &format!("add {}", v(&[-1.0, 0.0])), "set scales 0 0", "set scales 1 0", "enable"]);
+    f.asks(&["new 2 1", "bits 4", &format!("add {vector} 1"), &format!("add {} 1", v(&[-1.0, 0.0])), "set scales 0 0", "set scales 1 0", "enable"]);
     f.ask(format!("search_cascade 1 1 1 {vector}"));
     f.told(format!("search_cascade 2 2 2 {vector}"), "list 0:00000000 1:80000000");
     f.told(format!("search 2 2 {vector}"), "list 0:00000000 1:80000000");
@@ -745,9 +760,9 @@ fn cascades(f: &mut Fixed) {
         f.lend(12, block_size(dim, 5));
         f.asks(&[&format!("{making} {dim:x} 5"), "bits 4"]);
         for number in 0..12 {
-            f.ask(format!("add_multi {:x} {}", number % 5, nth(dim, number % 7)));
+            f.ask(format!("add_multi {:x} {} 1", number % 5, nth(dim, number % 7)));
         }
-        f.asks(&["remove 3", "enable"]);
+        f.asks(&["remove 3 0", "enable"]);
         for r in 0..=11 {
             for k in [0, 1, 2, 5, 10, 11] {
                 f.ask(format!("search_cascade {k:x} {r:x} a {}", nth(dim, 80 + r)));
@@ -765,7 +780,7 @@ fn search_refusals(f: &mut Fixed) {
     f.lend(4, 3);
     f.ask("new 4 1");
     for number in 1..=3 {
-        f.ask(format!("add_keyed {number:x} {}", nth(4, number)));
+        f.ask(format!("add_keyed {number:x} {} 1 1", nth(4, number)));
     }
     f.label("11, document 01's example: 5 bits");
     f.told(format!("search_cascade 2 2 2 {w}"), "refused 11");
@@ -773,7 +788,7 @@ fn search_refusals(f: &mut Fixed) {
     f.ask("new 4 1");
     f.ask("bits 4");
     for number in 1..=3 {
-        f.ask(format!("add_keyed {number:x} {}", nth(4, number)));
+        f.ask(format!("add_keyed {number:x} {} 1 7ea", nth(4, number)));
     }
     f.label("11: 4 bits, not enabled");
     f.told(format!("search_cascade 2 2 2 {w}"), "refused 11");
@@ -814,13 +829,13 @@ fn search_refusals(f: &mut Fixed) {
             f.either(format!("search_cascade 1 {r} 1 {}", nth(4, query)));
         }
     }
-    f.asks(&["remove 2", "enable"]);
+    f.asks(&["remove 2 ffff", "enable"]);
     search_all(f, 2, 2, &w, true);
     f.label("an infinite scale times a score of 0 is a NaN");
     f.asks(&["set scales 0 7f800000", "set scales 2 0"]);
     search_zeros(f, 2, 2, &w, true);
     f.label("an unkeyed slot's NaN counts in a keyed search");
-    f.ask(format!("add {}", nth(4, 4)));
+    f.ask(format!("add {} 1", nth(4, 4)));
     f.ask("set scales 3 7fc00000");
     f.told(format!("search_keyed 1 1 {w}"), "refused 12");
     f.label("13 before all");
@@ -915,7 +930,7 @@ fn sixteen_slots(f: &mut Fixed, making: &str, dim: usize) {
     f.lend(16, 1);
     f.asks(&[making, "bits 4"]);
     for slot in 0..16 {
-        f.ask(format!("add_multi {:x} {}", slot % 5, with_trait(dim, ONE)));
+        f.ask(format!("add_multi {:x} {} 1", slot % 5, with_trait(dim, ONE)));
         f.ask(format!("set scales {slot:x} {ONE:x}"));
     }
     f.ask("enable");
@@ -979,7 +994,7 @@ fn one_trait_residual(f: &mut Fixed) {
         f.lend(6, 1);
         f.asks(&[making, "bits 4", "field residual 1"]);
         for key in [7, 8, 7, 9, 8, 7] {
-            f.ask(format!("add_multi {key} {query}"));
+            f.ask(format!("add_multi {key} {query} 1"));
         }
         for (stages, score) in [
             // 0.987350 less 0.887568, in units of 2^-24: 0xfcc2f8 less 0xe337a8 is 0x198b50.
@@ -1013,7 +1028,7 @@ fn one_trait_residual(f: &mut Fixed) {
             }
         }
         f.label("two slots less, then compacted: both stages move");
-        f.ask("remove 8");
+        f.ask("remove 8 0");
         search_all(f, 4, 2, &query, true);
         f.told("compact", "ok");
         f.asks(&["dump", "enable"]);
@@ -1039,7 +1054,7 @@ fn one_trait_zeros(f: &mut Fixed) {
         (5, [4, 1], MINUS + 1),
     ];
     for (slot, (key, stage, _)) in slots.iter().enumerate() {
-        f.ask(format!("add_multi {key} {one}"));
+        f.ask(format!("add_multi {key} {one} 1"));
         set_stages(f, slot, stage);
     }
     f.ask("enable");
@@ -1070,7 +1085,7 @@ fn one_trait_zeros(f: &mut Fixed) {
     f.ask("residual 1 2");
     let slots = [([0xf, MINUS, 0xf, MINUS], [MINUS, 0]), ([0xf, MINUS, 0xf, 0], [0, 0]), ([0, 0, 0xff, MINUS], [MINUS, 0]), ([0xf, 0, 0x1f, 0], [0, MINUS])];
     for (slot, (stages, _)) in slots.iter().enumerate() {
-        f.ask(format!("add_multi 7 {one}"));
+        f.ask(format!("add_multi 7 {one} 1"));
         set_stages(f, slot, stages);
     }
     for (slot, (_, scores)) in slots.iter().enumerate() {
@@ -1087,7 +1102,7 @@ fn one_trait_scales(f: &mut Fixed) {
     f.section("games with one trait: scales that are infinite, a NaN (12), large or subnormal; by hand");
     let one = "3f800000";
     f.lend(3, 1);
-    f.asks(&["new 1 2", "bits 4", &format!("add_keyed 7 {one}"), &format!("add_keyed 8 {one}"), &format!("add {one}")]);
+    f.asks(&["new 1 2", "bits 4", &format!("add_keyed 7 {one} 1 1"), &format!("add_keyed 8 {one} 1 7ea"), &format!("add {one} 1")]);
     for (stage, score) in [
         ([0xf, inf], inf),
         ([0x10, inf], MINUS ^ inf),
@@ -1115,11 +1130,11 @@ fn one_trait_scales(f: &mut Fixed) {
         f.told(format!("search_cascade 1 2 1 {one}"), "list 1:3f7cc2f8");
         f.told(format!("search_cascade 2 2 2 {one}"), "list 1:3f7cc2f8 2:3f7cc2f8");
     }
-    f.ask("remove 7");
+    f.ask("remove 7 ffff");
     f.told(format!("search 3 3 {one}"), "list 1:3f7cc2f8 2:3f7cc2f8");
     f.told(format!("score 0 {one}"), "refused 12");
     f.label("12 of the sum: an infinity and its opposite, a product past the largest and its opposite; a NaN in either stage");
-    f.asks(&["residual 1 2", &format!("add {one}")]);
+    f.asks(&["residual 1 2", &format!("add {one} 1")]);
     for stages in [[0xf, inf, 0, inf], [0xf, most, 0x10, most], [0xf, ONE, 0xf, nan], [0xf, nan, 0xf, ONE]] {
         set_stages(f, 0, &stages);
         f.told_all(&[&format!("score 0 {one}"), &format!("search 1 1 {one}")], "refused 12");
@@ -1148,10 +1163,10 @@ fn one_trait_slots(f: &mut Fixed) {
         let dim = f.driver.record.dim;
         let vectors = entries.map(|x| with_trait(dim, x.to_bits()));
         for (slot, w) in vectors.iter().enumerate() {
-            f.ask(if slot == 4 { format!("add {w}") } else { format!("add_multi {} {w}", [7, 8, 7, 9, 0, 6, 8][slot]) });
+            f.ask(if slot == 4 { format!("add {w} 1") } else { format!("add_multi {} {w} 1", [7, 8, 7, 9, 0, 6, 8][slot]) });
         }
         shows(f, "dump", &format!(" codes {codes} "));
-        f.asks(&["remove 9", "enable"]);
+        f.asks(&["remove 9 0", "enable"]);
         for (turn, w) in vectors.iter().enumerate() {
             for slot in 0..7 {
                 f.ask(format!("score {slot} {w}"));
@@ -1161,11 +1176,11 @@ fn one_trait_slots(f: &mut Fixed) {
             }
         }
         f.label("key 7's first slot overwritten by its opposite; then compacted, and one more");
-        f.ask(format!("add_keyed 7 {}", vectors[1]));
+        f.ask(format!("add_keyed 7 {} 1 1", vectors[1]));
         f.ask("enable");
         search_all(f, 4, 4, &vectors[0], true);
         f.either("compact");
-        f.ask(format!("add_keyed 5 {}", vectors[3]));
+        f.ask(format!("add_keyed 5 {} 1 7ea", vectors[3]));
         f.asks(&["dump", "enable"]);
         search_all(f, 4, 4, &vectors[0], true);
         search_all(f, 7, 2, &vectors[1], true);
@@ -1175,7 +1190,7 @@ fn one_trait_slots(f: &mut Fixed) {
     f.lend(5, 1);
     f.asks(&["new 1 2", "bits 4"]);
     for (slot, byte) in [0xb, 0xfb, 0x1b, 0xf, 0x8b].into_iter().enumerate() {
-        f.ask(format!("add_keyed {slot} 3f800000"));
+        f.ask(format!("add_keyed {slot} 3f800000 1 ffff"));
         set_stages(f, slot, &[byte, ONE]);
     }
     f.ask("enable");
@@ -1235,8 +1250,8 @@ fn one_trait_files(f: &mut Fixed) {
             continue;
         }
         f.label("slots 0 and 4 overwritten: by the file's seed the sign is -1, so -1 has code 11, and 1 has 3");
-        f.ask(format!("add_keyed 7 {}", with_trait(dim as usize, MINUS ^ ONE)));
-        f.ask(format!("add_keyed 9 {}", with_trait(dim as usize, ONE)));
+        f.ask(format!("add_keyed 7 {} 1 0", with_trait(dim as usize, MINUS ^ ONE)));
+        f.ask(format!("add_keyed 9 {} 1 1", with_trait(dim as usize, ONE)));
         shows(f, "dump", " codes fb1be40c938000 ");
         if version == 260 {
             shows(f, "dump", " codes2 3bf30fc823d600 ");
@@ -1245,14 +1260,14 @@ fn one_trait_files(f: &mut Fixed) {
         f.ask("enable");
         one_trait_questions(f);
         f.label("slot 1 removed, compacted, written and read again, then one more, whose high four bits are 0");
-        f.ask("remove 8");
+        f.ask("remove 8 7ea");
         f.either("compact");
         f.ask("enable");
         one_trait_questions(f);
         let file = f.either("write 100");
         f.either(format!("read {}", file.strip_prefix("bytes ").expect("a file")));
         shows(f, "dump", " codes fbe40c93808000 ");
-        f.ask(format!("add {}", with_trait(dim as usize, ONE)));
+        f.ask(format!("add {} 1", with_trait(dim as usize, ONE)));
         shows(f, "dump", " codes fbe40c93800300 ");
     }
 }
@@ -1270,7 +1285,7 @@ fn one_trait_refusals(f: &mut Fixed) {
         f.told_all(&[&format!("search_cascade 1 1 1 {one}"), "search_cascade 1 1 0 -"], "refused 11");
         f.ask("enable");
         search_all(f, 3, 3, one, true);
-        f.asks(&["add_keyed 7 40400000", "add_keyed 8 c0400000"]);
+        f.asks(&["add_keyed 7 40400000 1 ffff", "add_keyed 8 c0400000 1 0"]);
         f.told("search_cascade 1 1 1 -", "refused 11");
         f.ask("enable");
         f.label("1, 2, 3; before them 13 of the places; after them 9");
@@ -1293,7 +1308,7 @@ fn one_trait_refusals(f: &mut Fixed) {
         f.told_all(&["search 1 1 00000000", "search_cascade 1 1 1 00000000", "score 0 00000000"], "refused 2");
         f.told_all(&[&format!("search 2 1 {one}"), &format!("search_keyed 2 1 {one}"), &format!("search_cascade 2 2 1 {one}")], "refused 13");
         f.label("no slot is live: empty lists, but a dead slot is scored");
-        f.asks(&["set scales 0 3f9036dd", "set scales2 0 0", "remove 7", "remove 8"]);
+        f.asks(&["set scales 0 3f9036dd", "set scales2 0 0", "remove 7 1", "remove 8 7ea"]);
         search_all(f, 2, 2, one, true);
         // 3 has code 3 by the sign -1: 0.887568 times 1.1266743, the inverse's nearest, is 1. In the residual's second stage the product is +0.
         f.told(format!("score 0 {one}"), "score 3f800000");
@@ -1328,32 +1343,33 @@ fn files(f: &mut Fixed) {
             written(f);
             for (number, key) in [None, Some(8), Some(7), Some(7)].into_iter().enumerate() {
                 let w = nth(dim, number as u64);
-                f.ask(key.map_or(format!("add {w}"), |key| format!("add_multi {key:x} {w}")));
+                f.ask(key.map_or(format!("add {w} 1"), |key| format!("add_multi {key:x} {w} 1")));
             }
             written(f);
-            f.ask("remove 8");
+            f.ask("remove 8 ffff");
             written(f);
-            f.ask("remove 7");
+            f.ask("remove 7 0");
             written(f);
         }
     }
     f.label("document 01: dim 1, seed 1, width 5, 3.0 added unkeyed");
     f.lend(1, 1);
-    f.asks(&["new 1 1", "add 40400000"]);
+    f.asks(&["new 1 1", "add 40400000 1"]);
     written(f);
     f.section("files: working_dim, large seeds and keys, scales at the edges of a half, spare bits");
     f.lend(3, 5);
     f.ask("working 9 5 ffffffffffffffff");
-    f.ask(format!("add_keyed ffffffffffffffff {}", nth(9, 1)));
-    f.ask(format!("add_keyed 102030405060708 {}", nth(9, 2)));
-    f.ask(format!("add_keyed 0 {}", nth(9, 3)));
+    f.ask(format!("add_keyed ffffffffffffffff {} 1 1", nth(9, 1)));
+    f.ask(format!("add_keyed 102030405060708 {} 1 7ea", nth(9, 2)));
+    f.ask(format!("add_keyed 0 {} 1 ffff", nth(9, 3)));
     written(f);
     for scale in ["0", "80000000", "7f800000", "ff800000", "7fc00000", "ffc00001", "7f800001", "477fefff", "477ff000", "33000000", "33000001", "387fe000", "3f801000"] {
         f.ask(format!("set scales 1 {scale}"));
         f.ask("write 100");
     }
     f.lend(2, 1);
-    f.asks(&["new 1 1", "add 40400000", "set codes 0 ff", "write 100", "residual 1 1", "add 40400000", "set codes 0 ff", "set codes2 0 f3", "set scales2 0 7fffffff", "write 100"]);
+    f.asks(&["new 1 1", "add 40400000 1", "set codes 0 ff", "write 100"]);
+    f.asks(&["residual 1 1", "add 40400000 1", "set codes 0 ff", "set codes2 0 f3", "set scales2 0 7fffffff", "write 100"]);
     f.label("13 of the index before that of the file");
     f.ask("field live 2");
     f.told_all(&["length", "write 0", "write 100"], "refused 13");
@@ -1365,7 +1381,7 @@ fn files(f: &mut Fixed) {
 
 // ---- reading
 
-/// A file of so many slots, of entries that come from a seed. `keys` are the key entries: slot and key.
+/// A file of so many slots, of entries that come from a seed. `keys` are the key entries: slot and key. `years` are those of a file of 262 to 264.
 struct File {
     version: u16,
     working: u16,
@@ -1373,16 +1389,30 @@ struct File {
     width: u8,
     count: usize,
     keys: Vec<(u32, u64)>,
+    years: Vec<u16>,
 }
 
 impl File {
     fn new(version: u16, dim: u32, width: u8, count: usize, keys: &[(u32, u64)]) -> Self {
-        File { version, working: 0, dim, width, count, keys: keys.to_vec() }
+        File { version, working: 0, dim, width, count, keys: keys.to_vec(), years: Vec::new() }
     }
 
     fn block(&self) -> usize {
         let ignored = self.version == 257 || self.working == 0;
         block_size(if ignored { self.dim as usize } else { self.working as usize }, self.width)
+    }
+
+    fn has_width(&self) -> bool {
+        matches!(self.version, 261 | 264)
+    }
+
+    fn stages(&self) -> usize {
+        if matches!(self.version, 260 | 263) { 2 } else { 1 }
+    }
+
+    /// Where the key table begins.
+    fn table(&self) -> usize {
+        24 + usize::from(self.has_width()) + self.stages() * self.count * (2 + self.block())
     }
 
     fn bytes(&self) -> Vec<u8> {
@@ -1393,10 +1423,10 @@ impl File {
         file.extend(self.dim.to_le_bytes());
         file.extend(0x0123_4567_89ab_cdef_u64.to_le_bytes());
         file.extend((self.count as u32).to_le_bytes());
-        if self.version == 261 {
+        if self.has_width() {
             file.push(self.width);
         }
-        for _ in 0..if self.version == 260 { 2 } else { 1 } {
+        for _ in 0..self.stages() {
             for slot in 0..self.count {
                 file.extend((0x3800 + 0x123 * slot as u16 % 0x4000).to_le_bytes());
             }
@@ -1409,6 +1439,7 @@ impl File {
                 file.extend(key.to_le_bytes());
             }
         }
+        file.extend(self.years.iter().flat_map(|year| year.to_le_bytes()));
         file
     }
 }
@@ -1439,7 +1470,7 @@ fn readings(f: &mut Fixed) {
             f.ask(format!("search_keyed 3 3 {query}"));
             f.ask("length");
             f.ask("write 200");
-            f.ask(format!("add_keyed 7 {query}"));
+            f.ask(format!("add_keyed 7 {query} 1 0"));
             f.asks(&["dump", "write 200"]);
         }
     }
@@ -1449,9 +1480,9 @@ fn readings(f: &mut Fixed) {
         f.ask(making);
         let dim = f.driver.record.dim;
         for number in 0..5 {
-            f.ask(format!("add_multi {:x} {}", number % 3, nth(dim, number)));
+            f.ask(format!("add_multi {:x} {} 1", number % 3, nth(dim, number)));
         }
-        f.asks(&["remove_at 1 1", "remove_at 0 0", "dump"]);
+        f.asks(&["remove_at 1 1 1", "remove_at 0 0 7ea", "dump"]);
         let Answer::Rust(file) = f.driver.clone().answer(b"write 1000") else { panic!("no file") };
         let file = file.strip_prefix("bytes ").expect("bytes").to_string();
         f.ask("write 1000");
@@ -1483,26 +1514,35 @@ fn cuts_and_damage(f: &mut Fixed) {
     f.section("reading: each file cut at every length");
     f.lend(2, 4);
     for file in versions(2, 2, &[(1, 9), (0, 9)]) {
-        let file = file.bytes();
-        for length in 0..=file.len() {
-            read(f, &file[..length]);
-        }
+        cuts(f, &file);
         f.ask("dump");
     }
     f.section("reading: each byte of header and key table damaged");
     for file in versions(2, 2, &[(1, 9), (0, 9)]) {
-        let (whole, block) = (file.bytes(), file.block());
-        let stages = if file.version == 261 { 25 } else { 24 };
-        let keys = stages + 2 * (2 + block) * if file.version == 260 { 2 } else { 1 };
-        for at in (0..stages).chain(keys..whole.len()) {
-            for change in [0x01, 0x80] {
-                let mut damaged = whole.clone();
-                damaged[at] ^= change;
-                read(f, &damaged);
-            }
-        }
+        damages(f, &file);
         f.ask("dump");
     }
+}
+
+/// The answers to a file cut at each length, the whole one last.
+fn cuts(f: &mut Fixed, file: &File) -> Vec<String> {
+    let whole = file.bytes();
+    (0..=whole.len()).map(|length| read(f, &whole[..length])).collect()
+}
+
+/// The answers where a bit is changed, two of each byte of the head and of what stands behind scales and codes.
+fn damages(f: &mut Fixed, file: &File) -> Vec<String> {
+    let whole = file.bytes();
+    let head = 24 + usize::from(file.has_width());
+    let mut answers = Vec::new();
+    for at in (0..head).chain(file.table()..whole.len()) {
+        for change in [0x01, 0x80] {
+            let mut damaged = whole.clone();
+            damaged[at] ^= change;
+            answers.push(read(f, &damaged));
+        }
+    }
+    answers
 }
 
 /// The file with other bytes from there on.
@@ -1516,7 +1556,7 @@ fn reading_refusals(f: &mut Fixed) {
     f.section("reading: document 01's examples of refusals, and which comes first; nothing changes");
     f.lend(2, 4);
     f.ask("new 4 1");
-    f.ask(format!("add_keyed 7 {}", nth(4, 1)));
+    f.ask(format!("add_keyed 7 {} 1 ffff", nth(4, 1)));
     f.ask("dump");
     let file = |version, dim, count: usize| File::new(version, dim, 4, count, &[]).bytes();
     let whole = file(259, 4, 1);
@@ -1527,9 +1567,9 @@ fn reading_refusals(f: &mut Fixed) {
     refused(f, "14: 23 bytes", &whole[..23], 14);
     refused(f, "14 before 15", b"VECR", 14);
     refused(f, "15: VECR", &with(&whole, 0, b"VECR"), 15);
-    refused(f, "15 before 16", &with(&with(&whole, 0, b"VECR"), 4, &[6, 1]), 15);
-    refused(f, "16: 262", &with(&whole, 4, &[6, 1]), 16);
-    refused(f, "16 before 17", &with(&with(&whole, 4, &[6, 1]), 6, &[5, 0]), 16);
+    refused(f, "15 before 16", &with(&with(&whole, 0, b"VECR"), 4, &[9, 1]), 15);
+    refused(f, "16: 265", &with(&whole, 4, &[9, 1]), 16);
+    refused(f, "16 before 17", &with(&with(&whole, 4, &[9, 1]), 6, &[5, 0]), 16);
     refused(f, "17: 5 over 4", &with(&whole, 6, &[5, 0]), 17);
     refused(f, "17 before the width byte's 14", &with(&with(&whole[..24], 4, &[5, 1]), 6, &[5, 0]), 17);
     refused(f, "14: no width byte", &with(&whole[..24], 4, &[5, 1]), 14);
@@ -1554,15 +1594,15 @@ fn reading_refusals(f: &mut Fixed) {
     f.label("nothing changed");
     f.ask("dump");
     for (lengths, array) in [
-        ("2 2 2 2 2 1 4 2", "codes"), ("4 1 2 2 2 1 4 2", "scales"), ("4 2 1 2 2 1 4 2", "keys"), ("4 2 2 1 2 1 4 2", "keyed"),
-        ("4 2 2 2 1 1 4 2", "held"),
+        ("2 2 2 2 2 1 4 2 2", "codes"), ("4 1 2 2 2 1 4 2 2", "scales"), ("4 2 1 2 2 1 4 2 2", "keys"), ("4 2 2 1 2 1 4 2 2", "keyed"),
+        ("4 2 2 2 1 1 4 2 2", "held"), ("4 2 2 2 2 1 4 2 1", "years"),
     ] {
         f.label(&format!("20: room for one slot in {array}"));
         f.ask(format!("lend {lengths}"));
         assert_eq!(read(f, &file(259, 4, 2)), "refused 20");
         assert_eq!(read(f, &file(259, 4, 1)), "ok");
     }
-    for (lengths, array) in [("4 2 2 2 2 1 2 2", "codes2"), ("4 2 2 2 2 1 4 1", "scales2")] {
+    for (lengths, array) in [("4 2 2 2 2 1 2 2 2", "codes2"), ("4 2 2 2 2 1 4 1 2", "scales2")] {
         f.label(&format!("20: room for one slot in {array}, which counts only if the file is residual"));
         f.ask(format!("lend {lengths}"));
         assert_eq!(read(f, &file(260, 4, 2)), "refused 20");
@@ -1573,7 +1613,7 @@ fn reading_refusals(f: &mut Fixed) {
     f.told("contains 7", "refused 13");
     assert_eq!(read(f, &file(259, 4, 1)), "ok");
     f.ask("dump");
-    f.ask("lend 0 0 0 0 0 0 0 0");
+    f.ask("lend 0 0 0 0 0 0 0 0 0");
     assert_eq!(read(f, &file(260, 4, 0)), "ok");
     f.asks(&["dump", "length"]);
     f.label("lines that can't be read");
@@ -1594,7 +1634,7 @@ fn version_one(f: &mut Fixed) {
     let refused = |f: &mut Fixed, file: &[u8], number: u8| f.told(format!("read {}", bytes(file)), &format!("refused {number}"));
     let query = nth(3, 1);
     f.lend(4, 2);
-    f.asks(&["new 3 1", "bits 4", &format!("add_keyed 7 {query}"), &format!("add {}", nth(3, 2)), "enable", "dump"]);
+    f.asks(&["new 3 1", "bits 4", &format!("add_keyed 7 {query} 1 0"), &format!("add {} 1", nth(3, 2)), "enable", "dump"]);
     f.label("whole files, of one trait and without slots too; version 1 ignored the working_dim field");
     for (dim, working, slots) in [(1, 0, 1), (1, 1, 2), (2, 0, 0), (2, 1, 2), (3, 0, 3), (3, 2, 3), (5, 4, 1), (9, 0, 0), (4096, 0, 0)] {
         refused(f, &file_of_version_1(dim, working, &[ONE, 0x3e80_0000, 0x4040_0000][..slots]), 16);
@@ -1644,7 +1684,7 @@ fn version_one(f: &mut Fixed) {
     f.ask("field live 1");
     f.told("contains 7", "refused 13");
     refused(f, &whole, 16);
-    f.ask("lend 0 0 0 0 0 0 0 0");
+    f.ask("lend 0 0 0 0 0 0 0 0 0");
     for scales in [&[ONE][..], &[]] {
         refused(f, &file_of_version_1(1, 0, scales), 16);
     }
@@ -1658,7 +1698,7 @@ fn version_one(f: &mut Fixed) {
 fn order(f: &mut Fixed) {
     f.section("which refusal comes first");
     f.label("making: 4, then 13");
-    f.ask("lend 0 0 0 0 0 0 0 0");
+    f.ask("lend 0 0 0 0 0 0 0 0 0");
     f.told_all(
         &[
             "new 0 1", "new 1001 1", "new ffffffffffffffff 1", "working 4 0 1", "working 4 5 1", "working 0 0 1", "working 1001 4 1", "residual 0 1",
@@ -1672,26 +1712,26 @@ fn order(f: &mut Fixed) {
     f.ask("residual 4 1");
     f.told_all(&["bits 0", "bits 3", "bits 7", "bits ff"], "refused 5");
     f.told_all(&["bits 5", "bits 6"], "refused 7");
-    f.ask(format!("add_keyed 7 {}", nth(4, 1)));
+    f.ask(format!("add_keyed 7 {} 1 1", nth(4, 1)));
     f.told_all(&["bits 3", "bits 7"], "refused 5");
     f.told_all(&["bits 4", "bits 5", "bits 6"], "refused 6");
     f.label("dead slots are in use");
-    f.ask("remove 7");
+    f.ask("remove 7 7ea");
     f.told_all(&["bits 4", "bits 5"], "refused 6");
     f.label("add: 1, 2, 3, 8");
     for call in ["add", "add_keyed 7", "add_keyed 8", "add_multi 7"] {
-        f.told(format!("{call} {}", v(&[0.0; 3])), "refused 1");
-        f.told(format!("{call} {}", v(&[0.0; 4])), "refused 2");
-        f.told(format!("{call} {}", v(&[1.0e30; 4])), "refused 3");
-        f.told(format!("{call} {}", v(&[1.0; 4])), "refused 8");
+        f.told(adding(call, &v(&[0.0; 3])), "refused 1");
+        f.told(adding(call, &v(&[0.0; 4])), "refused 2");
+        f.told(adding(call, &v(&[1.0e30; 4])), "refused 3");
+        f.told(adding(call, &v(&[1.0; 4])), "refused 8");
     }
     f.ask("dump");
     f.label("13 before all");
     f.ask("field live 1");
     f.told_all(&["bits 3", "bits 4", "bits 5"], "refused 13");
-    f.told(format!("add {}", v(&[0.0; 3])), "refused 13");
-    f.told(format!("add_keyed 7 {}", v(&[0.0; 4])), "refused 13");
-    f.told(format!("add_multi 7 {}", v(&[1.0e30; 4])), "refused 13");
+    f.told(format!("add {} 1", v(&[0.0; 3])), "refused 13");
+    f.told(format!("add_keyed 7 {} 1 ffff", v(&[0.0; 4])), "refused 13");
+    f.told(format!("add_multi 7 {} 1", v(&[1.0e30; 4])), "refused 13");
     f.told("enable", "refused 13");
     f.ask("field live 0");
     f.ask("dump");
@@ -1702,59 +1742,61 @@ fn order(f: &mut Fixed) {
 fn making_misfits(f: &mut Fixed) {
     f.section("13 of making: a lent array holds no slot");
     // Dim 4: 3 bytes at 5 bits, 2 at 4.
-    f.asks(&["lend 3 1 1 1 1 1 0 0", "new 4 1", "lend 2 1 1 1 1 1 2 1", "residual 4 1", "dump"]);
+    f.asks(&["lend 3 1 1 1 1 1 0 0 1", "new 4 1", "lend 2 1 1 1 1 1 2 1 1", "residual 4 1", "dump"]);
     for (lengths, array) in [
-        ("2 1 1 1 1 1 0 0", "codes"),
-        ("3 0 1 1 1 1 0 0", "scales"),
-        ("3 1 0 1 1 1 0 0", "keys"),
-        ("3 1 1 0 1 1 0 0", "keyed"),
-        ("3 1 1 1 0 1 0 0", "held"),
-        ("3 1 1 1 1 0 0 0", "alive"),
+        ("2 1 1 1 1 1 0 0 1", "codes"),
+        ("3 0 1 1 1 1 0 0 1", "scales"),
+        ("3 1 0 1 1 1 0 0 1", "keys"),
+        ("3 1 1 0 1 1 0 0 1", "keyed"),
+        ("3 1 1 1 0 1 0 0 1", "held"),
+        ("3 1 1 1 1 0 0 0 1", "alive"),
+        ("3 1 1 1 1 1 0 0 0", "years"),
     ] {
         f.label(&format!("no slot in {array}"));
         f.ask(format!("lend {lengths}"));
         f.told_all(&["new 4 2", "working 4 3 2"], "refused 13");
     }
     for (lengths, array) in [
-        ("1 1 1 1 1 1 2 1", "codes"),
-        ("2 0 1 1 1 1 2 1", "scales"),
-        ("2 1 0 1 1 1 2 1", "keys"),
-        ("2 1 1 0 1 1 2 1", "keyed"),
-        ("2 1 1 1 0 1 2 1", "held"),
-        ("2 1 1 1 1 0 2 1", "alive"),
-        ("2 1 1 1 1 1 1 1", "codes2"),
-        ("2 1 1 1 1 1 2 0", "scales2"),
+        ("1 1 1 1 1 1 2 1 1", "codes"),
+        ("2 0 1 1 1 1 2 1 1", "scales"),
+        ("2 1 0 1 1 1 2 1 1", "keys"),
+        ("2 1 1 0 1 1 2 1 1", "keyed"),
+        ("2 1 1 1 0 1 2 1 1", "held"),
+        ("2 1 1 1 1 0 2 1 1", "alive"),
+        ("2 1 1 1 1 1 1 1 1", "codes2"),
+        ("2 1 1 1 1 1 2 0 1", "scales2"),
+        ("2 1 1 1 1 1 2 1 0", "years"),
     ] {
         f.label(&format!("residual, no slot in {array}"));
         f.ask(format!("lend {lengths}"));
         f.told("residual 4 2", "refused 13");
     }
     f.label("the record stayed");
-    f.ask("lend 2 1 1 1 1 1 2 1");
+    f.ask("lend 2 1 1 1 1 1 2 1 1");
     f.ask("dump");
 }
 
 /// Four dead slots in use, so that arrays lent anew, all zeros, fit if they are long enough.
 fn short_arrays(f: &mut Fixed) {
-    let names = ["codes", "scales", "keys", "keyed", "held", "alive", "codes2", "scales2"];
+    let names = ["codes", "scales", "keys", "keyed", "held", "alive", "codes2", "scales2", "years"];
     for residual in [false, true] {
         f.section(if residual { "13: a lent array too short for the slots in use, residual" } else { "13: a lent array too short for the slots in use" });
         f.lend(4, 2);
         f.ask(if residual { "residual 4 1" } else { "new 4 1" });
         f.asks(&["bits 4", "field n 4"]);
-        let whole = [8, 4, 4, 4, 4, 1, 8, 4];
-        for short in 0..8 {
+        let whole = [8, 4, 4, 4, 4, 1, 8, 4, 4];
+        for short in 0..9 {
             let mut lengths = whole;
             lengths[short] -= 1;
             f.label(&format!("one element fewer in {}", names[short]));
             f.ask(format!("lend {}", lengths.map(|n| format!("{n:x}")).join(" ")));
-            if short < 6 || residual {
+            if !names[short].ends_with('2') || residual {
                 for line in some_calls(short) {
                     f.told(line, "refused 13");
                 }
             } else {
                 f.label("which counts only if residual");
-                f.asks(&["contains 7", "key_of 3", "remove_at 7 3"]);
+                f.asks(&["contains 7", "key_of 3", "remove_at 7 3 0"]);
             }
         }
         f.label("as long as needed");
@@ -1768,20 +1810,21 @@ fn short_arrays(f: &mut Fixed) {
         f.ask("dump");
     }
     f.label("a poked record as the language prints it");
-    f.asks(&["lend 1 1 1 1 1 1 0 0", "new 1 0", "field n 2"]);
+    f.asks(&["lend 1 1 1 1 1 1 0 0 1", "new 1 0", "field n 2"]);
     f.told(
         "dump",
-        "record 1 1 0 5 0 2 0 0 codes 00 scales 00000000 keys 0000000000000000 keyed 0 held 00000000 alive 0000000000000000 codes2 - scales2 -",
+        "record 1 1 0 5 0 2 0 0 codes 00 scales 00000000 keys 0000000000000000 keyed 0 held 00000000 alive 0000000000000000 codes2 - scales2 - years 0000",
     );
     f.asks(&[
         "field dim ffffffffffffffff", "field working_dim 0", "field seed ffffffffffffffff", "field bits ff", "field residual 1", "field live 3",
         "field cascade 1",
     ]);
-    f.asks(&["set codes 0 1f", "set scales 0 7f800001", "set keys 0 123456789abcdef", "set keyed 0 1", "set held 0 ffffffff", "set alive 0 80"]);
+    f.asks(&["set codes 0 1f", "set scales 0 7f800001", "set keys 0 123456789abcdef", "set keyed 0 1", "set held 0 ffffffff"]);
+    f.asks(&["set alive 0 80", "set years 0 7ea"]);
     f.told(
         "dump",
         "record ffffffffffffffff 0 ffffffffffffffff ff 1 2 3 1 codes 1f scales 7f800001 \
-         keys 0123456789abcdef keyed 1 held ffffffff alive 0000000000000080 codes2 - scales2 -",
+         keys 0123456789abcdef keyed 1 held ffffffff alive 0000000000000080 codes2 - scales2 - years 07ea",
     );
     f.told_all(&["contains 0", "compact", "enable", "bits 4"], "refused 13");
     f.ask("new 1 0");
@@ -1796,11 +1839,11 @@ fn misfits(f: &mut Fixed) {
     let base = |f: &mut Fixed, making: &str| {
         f.lend(6, 3);
         f.asks(&[making, "bits 4"]);
-        f.ask(format!("add_multi 7 {}", nth(4, 1)));
-        f.ask(format!("add_keyed 8 {}", nth(4, 2)));
-        f.ask(format!("add_multi 7 {}", nth(4, 3)));
-        f.ask(format!("add {}", nth(4, 4)));
-        f.asks(&["remove 8", "dump"]);
+        f.ask(format!("add_multi 7 {} 1", nth(4, 1)));
+        f.ask(format!("add_keyed 8 {} 1 1", nth(4, 2)));
+        f.ask(format!("add_multi 7 {} 1", nth(4, 3)));
+        f.ask(format!("add {} 1", nth(4, 4)));
+        f.asks(&["remove 8 7ea", "dump"]);
     };
     let run = |f: &mut Fixed, turn: usize, (what, set, back): &Poke| {
         f.label(what);
@@ -1886,12 +1929,13 @@ fn set_words(f: &mut Fixed, words: &[u64]) {
 fn all_calls() -> Vec<String> {
     let w = nth(2, 0);
     let mut lines: Vec<String> = [
-        "bits 4", "bits 7", "relabel 7 9", "relabel 7 7", "remove 7", "remove_at 7 0", "key_of 0", "contains 7", "slot_at 7 0", "enable", "compact", "length",
-        "write 1000",
+        "bits 4", "bits 7", "relabel 7 9", "relabel 7 7", "remove 7 ffff", "remove_at 7 0 0", "key_of 0", "contains 7", "slot_at 7 0", "enable", "compact",
+        "length", "write 1000",
     ]
     .map(str::to_string)
     .to_vec();
-    lines.extend(["add", "add_keyed 7", "add_keyed 9", "add_multi 7", "score 0", "search 1 1", "search_keyed 1 1", "search_cascade 1 1 1"].map(|call| format!("{call} {w}")));
+    lines.extend(["add", "add_keyed 7", "add_keyed 9", "add_multi 7"].map(|call| adding(call, &w)));
+    lines.extend(["score 0", "search 1 1", "search_keyed 1 1", "search_cascade 1 1 1"].map(|call| format!("{call} {w}")));
     lines
 }
 
@@ -1903,7 +1947,7 @@ fn stray_marks(f: &mut Fixed) {
         f.label(&format!("{n} slots in use, {words} lent: key 7 on the first and the last, slot 1 dead"));
         f.lend_words(n + 1, 1, words);
         assert_eq!(read(f, &File::new(259, 2, 4, n, &[(0, 7), (n as u32 - 1, 7), (1, 8)]).bytes()), "ok");
-        f.asks(&["enable", "remove 8"]);
+        f.asks(&["enable", "remove 8 1"]);
         let mut marks = first_marks(n, words);
         marks[0] ^= 2;
         dump_words(f, &marks);
@@ -1964,15 +2008,15 @@ fn cleared_marks(f: &mut Fixed) {
             f.ask(making);
             dump_words(f, &[0; 4]);
         }
-        f.ask(format!("add_keyed 7 {}", nth(4, 1)));
-        f.ask(format!("add {}", nth(4, 2)));
+        f.ask(format!("add_keyed 7 {} 1 7ea", nth(4, 1)));
+        f.ask(format!("add {} 1", nth(4, 2)));
         dump_words(f, &[3, 0, 0, 0]);
         f.label("making again, over live slots");
         f.ask(making);
         dump_words(f, &[0; 4]);
     }
     f.label("13 of making leaves them");
-    f.ask("lend 3 0 1 1 1 2 0 0");
+    f.ask("lend 3 0 1 1 1 2 0 0 1");
     set_words(f, &[u64::MAX, 1]);
     f.told_all(&["new 4 1", "working 4 3 1", "residual 4 1"], "refused 13");
     dump_words(f, &[u64::MAX, 1]);
@@ -2003,31 +2047,31 @@ fn room_by_words(f: &mut Fixed) {
         dump_words(f, &first_marks(slots, words));
         f.label("8, and what is no 8");
         for call in ["add", "add_keyed 9", "add_multi 7"] {
-            f.told(format!("{call} {w}"), "refused 8");
+            f.told(adding(call, &w), "refused 8");
         }
-        f.ask(format!("add_keyed 7 {w}"));
-        f.ask("remove 8");
-        f.told(format!("add {w}"), "refused 8");
+        f.ask(format!("add_keyed 7 {w} 1 ffff"));
+        f.ask("remove 8 0");
+        f.told(format!("add {w} 1"), "refused 8");
         f.ask("compact");
         dump_words(f, &first_marks(slots - 1, words));
-        f.ask(format!("add_keyed 9 {w}"));
+        f.ask(format!("add_keyed 9 {w} 1 1"));
         dump_words(f, &first_marks(slots, words));
-        f.told(format!("add_multi 9 {w}"), "refused 8");
+        f.told(format!("add_multi 9 {w} 1"), "refused 8");
         f.label("one word more");
         f.lend_words(slots + 2, 1, words + 1);
         assert_eq!(read(f, &File::new(259, 2, 4, slots + 1, &keys).bytes()), "ok");
-        f.ask(format!("add {w}"));
-        f.told(format!("add {w}"), "refused 8");
+        f.ask(format!("add {w} 1"));
+        f.told(format!("add {w} 1"), "refused 8");
         dump_words(f, &first_marks(slots + 2, words + 1));
     }
     f.label("appends up to the last bit of the only word");
     f.lend_words(65, 1, 1);
     assert_eq!(read(f, &File::new(259, 2, 4, 61, &[]).bytes()), "ok");
     for call in ["add", "add_keyed 9", "add_multi 9"] {
-        f.ask(format!("{call} {w}"));
+        f.ask(adding(call, &w));
     }
     dump_words(f, &[u64::MAX]);
-    f.told(format!("add {w}"), "refused 8");
+    f.told(format!("add {w} 1"), "refused 8");
     f.label("13: fewer words than the slots in use need; dead slots, so that arrays lent anew fit if they are long enough");
     f.lend(1, 2);
     f.asks(&["new 2 1", "bits 4"]);
@@ -2041,7 +2085,7 @@ fn room_by_words(f: &mut Fixed) {
         f.asks(&["contains 7", "key_of 0"]);
         dump_words(f, &vec![0; words]);
         f.ask("compact");
-        f.ask(format!("add {w}"));
+        f.ask(format!("add {w} 1"));
         dump_words(f, &first_marks(1, words));
         f.asks(&["new 2 1", "bits 4"]);
     }
@@ -2050,7 +2094,7 @@ fn room_by_words(f: &mut Fixed) {
     f.told_all(&["new 2 1", "working 2 1 1", "residual 2 1"], "refused 13");
     assert_eq!(read(f, &File::new(259, 2, 4, 1, &[]).bytes()), "refused 20");
     assert_eq!(read(f, &File::new(259, 2, 4, 0, &[]).bytes()), "ok");
-    f.told(format!("add {w}"), "refused 8");
+    f.told(format!("add {w} 1"), "refused 8");
     f.label("all words that the program holds");
     f.lend_words(3, 2, 64);
     short_history(f, 2, "new 2 5", 5, false);
@@ -2069,17 +2113,17 @@ fn word_borders(f: &mut Fixed) {
                 dump_words(f, &first_marks(slot, 4));
             }
             let w = nth(2, slot as u64 % 40);
-            f.ask(if slot % 7 == 3 { format!("add {w}") } else { format!("add_multi {:x} {w}", slot % 11) });
+            f.ask(if slot % 7 == 3 { format!("add {w} 1") } else { format!("add_multi {:x} {w} 1", slot % 11) });
         }
         f.label("a key of slots 131 and 132");
-        f.ask(format!("add_keyed 63 {}", nth(2, 41)));
-        f.ask(format!("add_multi 63 {}", nth(2, 42)));
-        f.ask(format!("add_keyed 63 {}", nth(2, 43)));
+        f.ask(format!("add_keyed 63 {} 1 7ea", nth(2, 41)));
+        f.ask(format!("add_multi 63 {} 1", nth(2, 42)));
+        f.ask(format!("add_keyed 63 {} 1 ffff", nth(2, 43)));
         f.asks(&["relabel 63 3f", "relabel 3f 9", "slot_at 3f 0", "slot_at 3f 1", "contains 63", "key_of 83"]);
         f.label("single removals at the borders");
         for slot in [63, 64, 65, 127, 128] {
-            f.ask(format!("remove_at {:x} {slot:x}", slot % 11));
-            f.ask(format!("remove_at {:x} {slot:x}", slot % 11));
+            f.ask(format!("remove_at {:x} {slot:x} 0", slot % 11));
+            f.ask(format!("remove_at {:x} {slot:x} 1", slot % 11));
             f.ask(format!("key_of {slot:x}"));
         }
         // 133 slots: 128 to 132 are the lowest five bits of the third word.
@@ -2104,7 +2148,7 @@ fn word_borders(f: &mut Fixed) {
         };
         searches(f);
         f.label("a whole key, in every word; then the file");
-        f.asks(&["slot_at 4 0", "slot_at 4 5", "remove 4", "contains 4", "length", "write 1000"]);
+        f.asks(&["slot_at 4 0", "slot_at 4 5", "remove 4 7ea", "contains 4", "length", "write 1000"]);
         let fours: Vec<usize> = (0..131).filter(|slot| slot % 7 != 3 && slot % 11 == 4).collect();
         let mut marks = vec![!(1 << 63), !(1 << 63 | 3), 0x1e, 0];
         fours.iter().for_each(|slot| marks[slot / 64] &= !(1 << (slot % 64)));
@@ -2117,7 +2161,7 @@ fn word_borders(f: &mut Fixed) {
         assert_eq!(f.either("compact"), "ok");
         dump_words(f, &first_marks(left, 4));
         searches(f);
-        f.ask(format!("add_keyed 4 {}", nth(2, 44)));
+        f.ask(format!("add_keyed 4 {} 1 ffff", nth(2, 44)));
         dump_words(f, &first_marks(left + 1, 4));
     }
 }
@@ -2130,7 +2174,7 @@ fn compacted_words(f: &mut Fixed) {
         let keys: Vec<(u32, u64)> = (0..130).filter(|&slot| !stays(slot) || slot % 3 == 0).map(|slot| (slot as u32, if stays(slot) { 6 } else { 5 })).collect();
         f.lend_words(130, 1, 3);
         assert_eq!(read(f, &File::new(259, 2, 4, 130, &keys).bytes()), "ok");
-        f.ask("remove 5");
+        f.ask("remove 5 0");
         let mut marks = vec![0; 3];
         (0..130).filter(|&slot| stays(slot)).for_each(|slot| marks[slot / 64] |= 1 << (slot % 64));
         if left == 64 {
@@ -2186,19 +2230,20 @@ fn no_misfits(f: &mut Fixed) {
     f.section("what is no misfit");
     f.lend(5, 3);
     f.asks(&["new 4 1", "bits 4"]);
-    f.ask(format!("add_multi 7 {}", nth(4, 1)));
-    f.ask(format!("add_keyed 8 {}", nth(4, 2)));
-    f.ask(format!("add_multi 7 {}", nth(4, 3)));
-    f.ask(format!("add {}", nth(4, 4)));
+    f.ask(format!("add_multi 7 {} 1", nth(4, 1)));
+    f.ask(format!("add_keyed 8 {} 1 1", nth(4, 2)));
+    f.ask(format!("add_multi 7 {} 1", nth(4, 3)));
+    f.ask(format!("add {} 1", nth(4, 4)));
     f.label("keys and positions past the slots in use");
-    f.asks(&["set keyed 4 1", "set keys 4 7", "set held 4 9", "contains 7", "slot_at 7 2", "key_of 4", "remove_at 7 4", "dump"]);
-    f.ask(format!("add {}", nth(4, 5)));
+    f.asks(&["set keyed 4 1", "set keys 4 7", "set held 4 9", "contains 7", "slot_at 7 2", "key_of 4", "remove_at 7 4 7ea", "dump"]);
+    f.ask(format!("add {} 1", nth(4, 5)));
     f.ask("dump");
     f.label("the word of an unkeyed or a dead slot");
-    f.asks(&["remove 8", "set keys 1 7", "set keys 3 7", "contains 7", "key_of 1", "key_of 3", "slot_at 7 2", "dump", "relabel 7 9", "dump", "relabel 9 7"]);
+    f.asks(&["remove 8 ffff", "set keys 1 7", "set keys 3 7", "contains 7", "key_of 1", "key_of 3", "slot_at 7 2", "dump"]);
+    f.asks(&["relabel 7 9", "dump", "relabel 9 7"]);
     f.label("positions 1 and 0: the held order is slot 2, then 0");
     f.asks(&["set held 0 1", "set held 2 0", "slot_at 7 0", "slot_at 7 1"]);
-    f.ask(format!("add_keyed 7 {}", nth(4, 6)));
+    f.ask(format!("add_keyed 7 {} 1 0", nth(4, 6)));
     f.asks(&["dump", "compact", "dump"]);
     f.label("the same with nothing dead: document 01, compact restores rising order");
     f.asks(&["set held 0 1", "set held 1 0", "slot_at 7 0"]);
@@ -2211,24 +2256,24 @@ fn no_misfits(f: &mut Fixed) {
     f.told("enable", "refused 11");
     f.told("bits 6", "ok");
     f.asks(&["dump", "field cascade 1"]);
-    f.ask(format!("add {}", nth(4, 1)));
+    f.ask(format!("add {} 1", nth(4, 1)));
     f.ask("dump");
     f.label("any seed");
     f.asks(&["new 4 1", "field seed 0"]);
-    f.ask(format!("add {}", nth(4, 1)));
+    f.ask(format!("add {} 1", nth(4, 1)));
     f.ask("dump");
     f.label("residual set on a record of 4 bits, with arrays for it; working_dim below dim then");
     f.asks(&["new 4 1", "bits 4", "field residual 1", "field working_dim 3"]);
-    f.ask(format!("add_keyed 7 {}", nth(4, 1)));
-    f.ask(format!("add_keyed 7 {}", nth(4, 2)));
+    f.ask(format!("add_keyed 7 {} 1 1", nth(4, 1)));
+    f.ask(format!("add_keyed 7 {} 1 7ea", nth(4, 2)));
     f.told("bits 5", "refused 6");
     f.ask("dump");
     f.label("arrays lent anew under an empty index keep the record");
     f.ask("new 4 7");
     f.lend(1, 3);
     f.ask("dump");
-    f.ask(format!("add_multi 7 {}", nth(4, 1)));
-    f.told(format!("add_multi 7 {}", nth(4, 2)), "refused 8");
+    f.ask(format!("add_multi 7 {} 1", nth(4, 1)));
+    f.told(format!("add_multi 7 {} 1", nth(4, 2)), "refused 8");
     f.ask("dump");
 }
 
@@ -2251,12 +2296,12 @@ fn histories(f: &mut Fixed) {
             let (key, other) = (random.below(3), random.below(4));
             let slot = random.below(7);
             let line = match random.below(14) {
-                0 => format!("add {w}"),
-                1 | 2 => format!("add_keyed {key:x} {w}"),
-                3..=5 => format!("add_multi {key:x} {w}"),
+                0 => format!("add {w} 1"),
+                1 | 2 => format!("add_keyed {key:x} {w} 1 ffff"),
+                3..=5 => format!("add_multi {key:x} {w} 1"),
                 6 => format!("relabel {key:x} {other:x}"),
-                7 => format!("remove {key:x}"),
-                8 | 9 => format!("remove_at {key:x} {slot:x}"),
+                7 => format!("remove {key:x} 0"),
+                8 | 9 => format!("remove_at {key:x} {slot:x} 1"),
                 10 => format!("slot_at {key:x} {:x}", random.below(3)),
                 11 => format!("key_of {slot:x}"),
                 12 => "compact".to_string(),
@@ -2331,7 +2376,18 @@ impl Twin {
     }
 }
 
-fn some_call(f: &Fixed, twin: &Twin, random: &mut Random) -> Call {
+/// The years that slots of a history are given, and the present years that its calls are told.
+struct Ages {
+    years: &'static [u16],
+    presents: &'static [u16],
+}
+
+fn pick(from: &[u16], random: &mut Random) -> u16 {
+    from[random.below(from.len() as u64) as usize]
+}
+
+fn some_call(f: &Fixed, twin: &Twin, ages: &Ages, random: &mut Random) -> Call {
+    let (year, present) = (pick(ages.years, random), pick(ages.presents, random));
     let (w, query) = (nth(f.driver.record.dim, random.below(9)), nth(f.driver.record.dim, random.below(9)));
     let (key, other, k) = (random.below(4), random.below(5), random.below(6));
     let live = twin.live(f);
@@ -2339,11 +2395,11 @@ fn some_call(f: &Fixed, twin: &Twin, random: &mut Random) -> Call {
     match (random.below(14), named) {
         (0 | 1, Some(arrival)) => Call::KeyOf(arrival),
         (2, Some(arrival)) => Call::Score(arrival, query),
-        (3, _) => Call::Plain(format!("add {w}")),
-        (4 | 5, _) => Call::Plain(format!("add_keyed {key:x} {w}")),
-        (6 | 7, _) => Call::Plain(format!("add_multi {key:x} {w}")),
+        (3, _) => Call::Plain(format!("add {w} {year:x}")),
+        (4 | 5, _) => Call::Plain(format!("add_keyed {key:x} {w} {year:x} {present:x}")),
+        (6 | 7, _) => Call::Plain(format!("add_multi {key:x} {w} {year:x}")),
         (8, _) => Call::Plain(format!("relabel {key:x} {other:x}")),
-        (9, _) => Call::Plain(format!("remove {key:x}")),
+        (9, _) => Call::Plain(format!("remove {key:x} {present:x}")),
         (10, _) => Call::Plain(format!("search {k:x} 20 {query}")),
         (11, _) => Call::Plain(format!("search_keyed {k:x} 20 {query}")),
         (12, _) => Call::Plain(format!("slot_at {key:x} {:x}", random.below(3))),
@@ -2355,31 +2411,40 @@ fn some_call(f: &Fixed, twin: &Twin, random: &mut Random) -> Call {
 fn twins(f: &mut Fixed) {
     f.section("twins: a history without compactions, and twice the same list with some; answers equal by arrival");
     for (number, making) in ["new 5 3", "working 9 6 4", "residual 3 5", "new 2 0", "residual 1 2"].iter().enumerate() {
-        let mut random = Random::new(90 + number as u64);
-        let start = |f: &mut Fixed| {
-            f.lend(32, 8);
-            f.ask(*making);
-            if number == 3 {
-                f.ask("bits 6");
-            }
-            Twin::default()
-        };
-        let mut twin = start(f);
-        let (mut calls, mut answers) = (Vec::new(), Vec::new());
-        for _ in 0..60 {
-            let call = some_call(f, &twin, &mut random);
-            answers.push(twin.call(f, &call));
-            calls.push(call);
+        twin_histories(f, making, if number == 3 { "6" } else { "" }, &Ages { years: &[1], presents: &[0, 1, 0x7ea, 0xffff] }, 90 + number as u64);
+    }
+    f.section("twins with retention years (document 02, Req 06), which travel with their slots and into equal files");
+    let ages = Ages { years: &[0, 1, 1, 1, 2, 0x7ea, 0x7eb, 0xffff], presents: &[0, 1, 0x7e9, 0x7ea, 0x7eb, 0xffff] };
+    for (number, (making, width)) in [("new 5 3", ""), ("new 5 3", "4"), ("residual 3 5", ""), ("working 9 6 4", "6")].iter().enumerate() {
+        twin_histories(f, making, width, &ages, 95 + number as u64);
+    }
+}
+
+fn twin_histories(f: &mut Fixed, making: &str, width: &str, ages: &Ages, seed: u64) {
+    let mut random = Random::new(seed);
+    let start = |f: &mut Fixed| {
+        f.lend(32, 8);
+        f.ask(making);
+        if !width.is_empty() {
+            f.ask(format!("bits {width}"));
         }
-        for often in [3, 9] {
-            f.label(&format!("with compactions, one in {often}"));
-            let mut twin = start(f);
-            for (call, answer) in calls.iter().zip(&answers) {
-                if random.below(often) == 0 {
-                    twin.compact(f);
-                }
-                assert_eq!(&twin.call(f, call), answer, "the Rust's answers part");
+        Twin::default()
+    };
+    let mut twin = start(f);
+    let (mut calls, mut answers) = (Vec::new(), Vec::new());
+    for _ in 0..60 {
+        let call = some_call(f, &twin, ages, &mut random);
+        answers.push(twin.call(f, &call));
+        calls.push(call);
+    }
+    for often in [3, 9] {
+        f.label(&format!("with compactions, one in {often}"));
+        let mut twin = start(f);
+        for (call, answer) in calls.iter().zip(&answers) {
+            if random.below(often) == 0 {
+                twin.compact(f);
             }
+            assert_eq!(&twin.call(f, call), answer, "the answers part");
         }
     }
 }
@@ -2391,33 +2456,47 @@ fn unreadable(f: &mut Fixed) {
     f.lend(2, 3);
     f.ask("new 4 1");
     let w = nth(4, 1);
-    f.ask(format!("add_keyed 7 {w}"));
+    f.ask(format!("add_keyed 7 {w} 1 0"));
     f.told_all(
         &[
-            "foo", "Add 3f800000", "add", "add ", "add  -", " dump", "dump ", "dump 0", "dump\t", "compact 1", "enable 1", "bits", "bits 4 4", "bits 04",
-            "bits 100", "bits -", "bits 4\r", "new", "new 4", "new 4 1 1", "new 04 1", "new 4 01", "new g 1", "new 4 G", "new 10000000000000000 1",
-            "new 4 10000000000000000", "working 4 4", "working 4 4 1 1", "residual 4", "residual 4 1 1", "contains", "contains 7 7", "contains A",
-            "contains 0x7", "contains +7", "contains -7", "contains 00", "contains  7", "contains 7 ", "contains 10000000000000000",
-            "contains 00000000000000007", "key_of", "key_of 0 0", "slot_at 7", "slot_at 7 0 0", "relabel 7", "relabel 7 8 9", "relabel 7  8", "remove",
-            "remove 7 0", "remove_at 7", "remove_at 7 0 0", "add_keyed 7", "add_multi 7", "add_keyed - 3f800000", "add 3f80000", "add 3f8000000",
-            "add 3F800000", "add 3f800000 3f800000", "add 3f800000-", "add -3f80000", "add --", "add 3f80000g", "add_keyed 7 7 3f800000", "lend",
-            "lend 1 1 1 1 1 1 1", "lend 1 1 1 1 1 1 1 1 1", "lend 100001 1 1 1 1 1 1 1", "lend 1 1001 1 1 1 1 1 1", "lend 1 1 1001 1 1 1 1 1",
-            "lend 1 1 1 1001 1 1 1 1", "lend 1 1 1 1 1001 1 1 1", "lend 1 1 1 1 1 41 1 1", "lend 1 1 1 1 1 1 100001 1", "lend 1 1 1 1 1 1 1 1001",
-            "lend - 1 1 1 1 1 1 1", "lend 01 1 1 1 1 1 1 1", "set", "set codes 0", "set codes 0 0 0", "set code 0 0", "set codes 6 0", "set scales 2 0",
-            "set keys 2 0", "set keyed 2 0", "set held 2 0", "set alive 1 0", "set codes2 6 0", "set scales2 2 0", "set codes ffffffffffffffff 0",
-            "set codes 0 100", "set scales 0 100000000", "set keys 0 10000000000000000", "set keyed 0 2", "set held 0 100000000", "set alive 0 10000000000000000",
-            "set codes2 0 100", "set scales2 0 100000000", "set codes 0 -", "field", "field dim", "field dim 4 4", "field width 4",
-            "field dim 10000000000000000", "field working_dim 04", "field seed 10000000000000000", "field bits 100", "field residual 2", "field n -1",
-            "field live 10000000000000000", "field cascade 2", "field Dim 4",
+            "foo", "Add 3f800000 1", "add", "add ", "add  - 1", " dump", "dump ", "dump 0", "dump\t", "compact 1", "enable 1", "bits", "bits 4 4",
+            "bits 04", "bits 100", "bits -", "bits 4\r", "new", "new 4", "new 4 1 1", "new 04 1", "new 4 01", "new g 1", "new 4 G",
+            "new 10000000000000000 1", "new 4 10000000000000000", "working 4 4", "working 4 4 1 1", "residual 4", "residual 4 1 1", "contains",
+            "contains 7 7", "contains A", "contains 0x7", "contains +7", "contains -7", "contains 00", "contains  7", "contains 7 ",
+            "contains 10000000000000000", "contains 00000000000000007", "key_of", "key_of 0 0", "slot_at 7", "slot_at 7 0 0", "relabel 7",
+            "relabel 7 8 9", "relabel 7  8", "remove", "remove 7", "remove 7 0 0", "remove_at 7", "remove_at 7 0", "remove_at 7 0 0 0", "add_keyed 7",
+            "add_multi 7", "add_keyed - 3f800000 1 0", "add 3f80000 1", "add 3f8000000 1", "add 3F800000 1", "add 3f800000 3f800000",
+            "add 3f800000 3f800000 1", "add 3f800000- 1", "add -3f80000 1", "add -- 1", "add 3f80000g 1", "add_keyed 7 7 3f800000 1 0", "lend",
+            "lend 1 1 1 1 1 1 1 1", "lend 1 1 1 1 1 1 1 1 1 1", "lend 100001 1 1 1 1 1 1 1 1", "lend 1 1001 1 1 1 1 1 1 1",
+            "lend 1 1 1001 1 1 1 1 1 1", "lend 1 1 1 1001 1 1 1 1 1", "lend 1 1 1 1 1001 1 1 1 1", "lend 1 1 1 1 1 41 1 1 1",
+            "lend 1 1 1 1 1 1 100001 1 1", "lend 1 1 1 1 1 1 1 1001 1", "lend 1 1 1 1 1 1 1 1 1001", "lend - 1 1 1 1 1 1 1 1",
+            "lend 01 1 1 1 1 1 1 1 1", "set", "set codes 0", "set codes 0 0 0", "set code 0 0", "set codes 6 0", "set scales 2 0", "set keys 2 0",
+            "set keyed 2 0", "set held 2 0", "set alive 1 0", "set codes2 6 0", "set scales2 2 0", "set codes ffffffffffffffff 0", "set codes 0 100",
+            "set scales 0 100000000", "set keys 0 10000000000000000", "set keyed 0 2", "set held 0 100000000", "set alive 0 10000000000000000",
+            "set codes2 0 100", "set scales2 0 100000000", "set years 2 0", "set years 0 10000", "set years 0 -", "set year 0 1", "set codes 0 -",
+            "field", "field dim", "field dim 4 4", "field width 4", "field dim 10000000000000000", "field working_dim 04",
+            "field seed 10000000000000000", "field bits 100", "field residual 2", "field n -1", "field live 10000000000000000", "field cascade 2",
+            "field Dim 4", "field year 1",
         ],
         "?",
     );
+    f.label("years: none, one that no u16 is, a leading zero, no number, one too many");
+    for (call, rest) in [("add", ""), ("add_keyed 7", " 0"), ("add_multi 7", "")] {
+        for year in ["", " 10000", " 01", " 0001", " -", " g", " FFFF", " ", " 1 0 0"] {
+            f.told(format!("{call} {w}{year}{rest}"), "?");
+        }
+    }
+    for call in [&format!("add_keyed 7 {w} 1"), "remove 7", "remove_at 7 0"] {
+        for present in ["", " 10000", " 01", " 07ea", " -", " g", " FFFF", " ", " 0 0"] {
+            f.told(format!("{call}{present}"), "?");
+        }
+    }
     f.label("nothing changed");
     f.ask("dump");
     f.label("the largest that each takes");
     f.asks(&[
         "set codes 5 ff", "set scales 1 ffffffff", "set keys 1 ffffffffffffffff", "set keyed 1 1", "set held 1 ffffffff",
-        "set codes2 5 ff", "set scales2 1 ffffffff",
+        "set codes2 5 ff", "set scales2 1 ffffffff", "set years 1 ffff",
     ]);
     f.asks(&["dump", "contains ffffffffffffffff", "set alive 0 ffffffffffffffff"]);
     dump_words(f, &[u64::MAX]);
@@ -2425,11 +2504,11 @@ fn unreadable(f: &mut Fixed) {
     f.ask("set alive 0 1");
     f.label("the longest line that is read, and one byte more");
     let longest = v(&vec![1.0; 17_498]);
-    f.told(format!("add_keyed 12345 {longest}"), "refused 1");
-    f.told(format!("add_keyed 123456 {longest}"), "?");
+    f.told(format!("add_keyed 1 {longest} 1 0"), "refused 1");
+    f.told(format!("add_keyed 12 {longest} 1 0"), "?");
     f.label("all that the program holds");
-    f.asks(&["lend 100000 1000 1000 1000 1000 40 100000 1000", "set alive 3f ffffffffffffffff", "new 1000 1"]);
-    f.ask("lend 0 0 0 0 0 0 0 0");
+    f.asks(&["lend 100000 1000 1000 1000 1000 40 100000 1000 1000", "set alive 3f ffffffffffffffff", "set years fff ffff", "new 1000 1"]);
+    f.ask("lend 0 0 0 0 0 0 0 0 0");
     f.ask("dump");
     f.label("empty lines and comments");
     f.told("", "");

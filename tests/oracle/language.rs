@@ -20,9 +20,10 @@ pub enum Array {
     Alive,
     Codes2,
     Scales2,
+    Years,
 }
 
-pub const ARRAYS: [(&str, Array); 8] = [
+pub const ARRAYS: [(&str, Array); 9] = [
     ("codes", Array::Codes),
     ("scales", Array::Scales),
     ("keys", Array::Keys),
@@ -31,6 +32,7 @@ pub const ARRAYS: [(&str, Array); 8] = [
     ("alive", Array::Alive),
     ("codes2", Array::Codes2),
     ("scales2", Array::Scales2),
+    ("years", Array::Years),
 ];
 
 impl Array {
@@ -49,6 +51,7 @@ impl Array {
             Array::Scales | Array::Scales2 | Array::Held => u32::MAX as u64,
             Array::Keys | Array::Alive => u64::MAX,
             Array::Keyed => 1,
+            Array::Years => u16::MAX as u64,
         }
     }
 }
@@ -91,7 +94,7 @@ pub enum Line {
     /// an empty line or a comment
     Blank,
     Unreadable,
-    Lend([usize; 8]),
+    Lend([usize; 9]),
     /// The place may be past the lent part: then the line can't be read.
     Set(Array, usize, u64),
     Field(Field, u64),
@@ -104,12 +107,12 @@ pub enum Line {
 /// The calls of an index that is there.
 pub enum Call {
     Bits(u8),
-    Add(Vec<f32>),
-    AddKeyed(u64, Vec<f32>),
-    AddMulti(u64, Vec<f32>),
+    Add { vector: Vec<f32>, year: u16 },
+    AddKeyed { key: u64, vector: Vec<f32>, year: u16, present: u16 },
+    AddMulti { key: u64, vector: Vec<f32>, year: u16 },
     Relabel(u64, u64),
-    Remove(u64),
-    RemoveAt(u64, usize),
+    Remove { key: u64, present: u16 },
+    RemoveAt { key: u64, slot: usize, present: u16 },
     KeyOf(usize),
     Contains(u64),
     SlotAt(u64, usize),
@@ -155,12 +158,14 @@ fn words(fields: &[&str]) -> Option<Line> {
         ["residual", dim, seed] => return making(size(dim)?, size(dim)?, number(seed)?, true),
         ["read", file] => return Some(Line::Read(bytes(file).filter(|b| b.len() <= MOST_FILE_BYTES)?)),
         ["bits", width] => Call::Bits(up_to(u8::MAX as u64, width)? as u8),
-        ["add", v] => Call::Add(vector(v)?),
-        ["add_keyed", key, v] => Call::AddKeyed(number(key)?, vector(v)?),
-        ["add_multi", key, v] => Call::AddMulti(number(key)?, vector(v)?),
+        ["add", v, year] => Call::Add { vector: vector(v)?, year: short(year)? },
+        ["add_keyed", key, v, year, present] => {
+            Call::AddKeyed { key: number(key)?, vector: vector(v)?, year: short(year)?, present: short(present)? }
+        }
+        ["add_multi", key, v, year] => Call::AddMulti { key: number(key)?, vector: vector(v)?, year: short(year)? },
         ["relabel", old, new] => Call::Relabel(number(old)?, number(new)?),
-        ["remove", key] => Call::Remove(number(key)?),
-        ["remove_at", key, slot] => Call::RemoveAt(number(key)?, size(slot)?),
+        ["remove", key, present] => Call::Remove { key: number(key)?, present: short(present)? },
+        ["remove_at", key, slot, present] => Call::RemoveAt { key: number(key)?, slot: size(slot)?, present: short(present)? },
         ["key_of", slot] => Call::KeyOf(size(slot)?),
         ["contains", key] => Call::Contains(number(key)?),
         ["slot_at", key, position] => Call::SlotAt(number(key)?, size(position)?),
@@ -181,7 +186,7 @@ fn lend(fields: &[&str]) -> Option<Line> {
     if fields.len() != ARRAYS.len() {
         return None;
     }
-    let mut lengths = [0; 8];
+    let mut lengths = [0; 9];
     for (i, (_, array)) in ARRAYS.iter().enumerate() {
         lengths[i] = up_to(array.most() as u64, fields[i])? as usize;
     }
@@ -219,6 +224,11 @@ fn up_to(most: u64, field: &str) -> Option<u64> {
 
 fn size(field: &str) -> Option<usize> {
     up_to(usize::MAX as u64, field).map(|value| value as usize)
+}
+
+/// "YEAR and PRESENT are u16."
+fn short(field: &str) -> Option<u16> {
+    up_to(u16::MAX as u64, field).map(|value| value as u16)
 }
 
 fn result(field: &str) -> Option<usize> {

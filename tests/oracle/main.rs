@@ -5,6 +5,7 @@ mod driver;
 mod encodings;
 mod exercise;
 mod halves;
+mod head;
 mod language;
 mod leaves;
 mod list;
@@ -14,6 +15,7 @@ mod random;
 mod scripts;
 mod text;
 mod twin;
+mod years;
 
 use std::io::{stdin, stdout, BufRead, BufWriter, Write};
 use std::path::Path;

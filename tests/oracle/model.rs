@@ -29,6 +29,8 @@ pub struct Arrays {
     pub alive: Vec<u64>,
     pub codes2: Vec<u8>,
     pub scales2: Vec<u32>,
+    /// retention years, see years.rs
+    pub years: Vec<u16>,
 }
 
 /// "64 to a 64-bit word" (document 02, Req 02)
@@ -77,8 +79,8 @@ impl Record {
 }
 
 impl Arrays {
-    pub fn lent(lengths: &[usize; 8]) -> Self {
-        let [codes, scales, keys, keyed, held, alive, codes2, scales2] = *lengths;
+    pub fn lent(lengths: &[usize; 9]) -> Self {
+        let [codes, scales, keys, keyed, held, alive, codes2, scales2, years] = *lengths;
         Arrays {
             codes: vec![0; codes],
             scales: vec![0; scales],
@@ -88,6 +90,7 @@ impl Arrays {
             alive: vec![0; alive],
             codes2: vec![0; codes2],
             scales2: vec![0; scales2],
+            years: vec![0; years],
         }
     }
 
@@ -106,8 +109,8 @@ impl Arrays {
 
     /// "the fewest slots that any lent array of the index holds, residual arrays only if residual, at most 65,536"
     pub fn capacity(&self, block: usize, residual: bool) -> usize {
-        let marks = MARKS * self.alive.len();
-        let mut rooms = vec![MOST_IN_USE, self.codes.len() / block, self.scales.len(), self.keys.len(), self.keyed.len(), self.held.len(), marks];
+        let mut rooms = vec![MOST_IN_USE, self.codes.len() / block, MARKS * self.alive.len()];
+        rooms.extend([self.scales.len(), self.keys.len(), self.keyed.len(), self.held.len(), self.years.len()]);
         if residual {
             rooms.extend([self.codes2.len() / block, self.scales2.len()]);
         }
@@ -124,6 +127,7 @@ impl Arrays {
             Array::Alive => self.alive.len(),
             Array::Codes2 => self.codes2.len(),
             Array::Scales2 => self.scales2.len(),
+            Array::Years => self.years.len(),
         }
     }
 
@@ -137,6 +141,7 @@ impl Arrays {
             Array::Alive => self.alive[at],
             Array::Codes2 => self.codes2[at] as u64,
             Array::Scales2 => self.scales2[at] as u64,
+            Array::Years => self.years[at] as u64,
         }
     }
 
@@ -150,6 +155,7 @@ impl Arrays {
             Array::Alive => self.alive[at] = value,
             Array::Codes2 => self.codes2[at] = value as u8,
             Array::Scales2 => self.scales2[at] = value as u32,
+            Array::Years => self.years[at] = value as u16,
         }
     }
 }
@@ -189,8 +195,10 @@ pub fn dump(record: &Record, arrays: &Arrays) -> String {
     let byte = |b: &u8| format!("{b:02x}");
     let word = |w: &u32| format!("{w:08x}");
     let long = |w: &u64| format!("{w:016x}");
+    let short = |w: &u16| format!("{w:04x}");
     format!(
-        "record {dim:x} {working_dim:x} {seed:x} {bits:x} {:x} {n:x} {live:x} {:x} codes {} scales {} keys {} keyed {} held {} alive {} codes2 {} scales2 {}",
+        "record {dim:x} {working_dim:x} {seed:x} {bits:x} {:x} {n:x} {live:x} {:x} \
+         codes {} scales {} keys {} keyed {} held {} alive {} codes2 {} scales2 {} years {}",
         *residual as u8,
         *cascade as u8,
         run(&arrays.codes, byte),
@@ -201,5 +209,6 @@ pub fn dump(record: &Record, arrays: &Arrays) -> String {
         run(&arrays.alive, long),
         run(&arrays.codes2, byte),
         run(&arrays.scales2, word),
+        run(&arrays.years, short),
     )
 }

@@ -5,17 +5,21 @@ use crate::model::{block_size, fits, MARKS};
 use crate::one_trait;
 use crate::random::Random;
 use crate::text::{bytes, vector};
+use crate::years::without_years;
 use std::io::Write;
 
 /// Keys of a history are few, so that they clash.
 const KEYS: [u64; 10] = [0, 1, 2, 3, 7, 0xff, 1 << 32, 1 << 63, u64::MAX - 1, u64::MAX];
 
-const UNREADABLE: [&str; 32] = [
-    "add", "add_keyed 1", "remove 01", "bits 100", "set codes fffff 1", "set keyed 0 2", "set alive 0 10000000000000000", "foo", "dump 1", " dump", "dump ", "contains g",
-    "contains 10000000000000000", "contains A", "field bits 100", "field residual 2", "field slots 1", "lend 1 1 1 1 1 1 1", "lend 100001 1 1 1 1 1 1 1",
-    "lend 1 1001 1 1 1 1 1 1", "new 4", "relabel 1  2", "add 3f80000", "compact compact",
+const UNREADABLE: [&str; 46] = [
+    "add", "add_keyed 1", "remove 01 0", "bits 100", "set codes fffff 1", "set keyed 0 2", "set alive 0 10000000000000000", "foo", "dump 1", " dump", "dump ",
+    "contains g", "contains 10000000000000000", "contains A", "field bits 100", "field residual 2", "field slots 1", "lend 1 1 1 1 1 1 1 1",
+    "lend 100001 1 1 1 1 1 1 1 1", "lend 1 1001 1 1 1 1 1 1 1", "new 4", "relabel 1  2", "add 3f80000 1", "compact compact",
     "score 0", "search 1 1001 3f800000", "search_cascade 1 1 3f800000", "length 1", "write 10001", "read 564",
-    "set alive 40 0", "lend 1 1 1 1 1 41 1 1",
+    "set alive 40 0", "lend 1 1 1 1 1 41 1 1 1",
+    // Years: none, one that no u16 is, one too many, a leading zero; slots of them that the program doesn't hold.
+    "add 3f800000", "add 3f800000 10000", "add 3f800000 1 1", "add_keyed 1 3f800000 1", "add_keyed 1 3f800000 1 10000", "add_multi 1 3f800000", "remove 1",
+    "remove 1 10000", "remove 1 07ea", "remove_at 1 0", "remove_at 1 0 g", "set years 0 10000", "set years 1000 1", "lend 1 1 1 1 1 1 1 1 1001",
 ];
 
 pub struct Script<W: Write> {
@@ -25,6 +29,10 @@ pub struct Script<W: Write> {
     driver: Driver,
     /// without look-up and files
     register: bool,
+    /// Whether slots of this history get other years than 1.
+    other_years: bool,
+    /// about the present year of this history
+    present: u16,
     calls: usize,
     keys: Vec<u64>,
     /// vectors that were asked about in this history
@@ -35,7 +43,8 @@ pub struct Script<W: Write> {
 
 pub fn write(out: impl Write, seed: u64, count: usize, register: bool) {
     let (random, driver) = (Random::new(seed), Driver::new());
-    let mut script = Script { out, random, driver, register, calls: 0, keys: Vec::new(), vectors: Vec::new(), files: Vec::new() };
+    let (other_years, present) = (false, 0);
+    let mut script = Script { out, random, driver, register, other_years, present, calls: 0, keys: Vec::new(), vectors: Vec::new(), files: Vec::new() };
     let mut history = 0;
     while script.calls < count {
         history += 1;
@@ -57,7 +66,7 @@ pub fn write_large(mut out: impl Write, seed: u64, count: usize) {
         let dim = if matches!(number % 8, 4 | 7) { 1 } else { [2, 3, 8, 17, 33, 64][random.below(6) as usize] };
         let bytes = 4096 * block_size(dim, 6);
         let mut line = |line: String| writeln!(out, "{line}").expect("the script is written");
-        line(format!("lend {bytes:x} 1000 1000 1000 1000 40 {bytes:x} 1000"));
+        line(format!("lend {bytes:x} 1000 1000 1000 1000 40 {bytes:x} 1000 1000"));
         line(format!("{making} {dim:x} {:x}", random.word()));
         line(format!("bits {width:x}"));
         // Few different entries, so that scores are often equal; or many.
@@ -69,7 +78,7 @@ pub fn write_large(mut out: impl Write, seed: u64, count: usize) {
         let keys = [1, 50, 3000, u64::MAX][random.below(4) as usize];
         for _ in 0..4096 {
             let v = entries(&mut random);
-            line(if random.below(5) == 0 { format!("add {v}") } else { format!("add_multi {:x} {v}", random.below(keys)) });
+            line(if random.below(5) == 0 { format!("add {v} 1") } else { format!("add_multi {:x} {v} 1", random.below(keys)) });
         }
         if one_trait::is_meant(dim, width) {
             // Vectors of one trait have few codes, and no high four bits.
@@ -79,7 +88,7 @@ pub fn write_large(mut out: impl Write, seed: u64, count: usize) {
             }
         }
         if keys > 1 {
-            (0..20).for_each(|_| line(format!("remove {:x}", random.below(keys.min(3000)))));
+            (0..20).for_each(|_| line(format!("remove {:x} 0", random.below(keys.min(3000)))));
         }
         if width == 4 {
             line("enable".to_string());
@@ -100,6 +109,10 @@ pub fn write_large(mut out: impl Write, seed: u64, count: usize) {
         line(format!("search a a {}", entries(&mut random)));
     }
     out.flush().expect("the script is written");
+}
+
+fn has_years(file: &[u8]) -> bool {
+    without_years(file).is_some()
 }
 
 impl<W: Write> Script<W> {
@@ -133,6 +146,8 @@ impl<W: Write> Script<W> {
         self.vectors.clear();
         let keys = 2 + self.below(5);
         self.keys = (0..keys).map(|_| self.pick(&KEYS)).collect();
+        self.other_years = self.rarely(4);
+        self.present = self.pick(&[0, 1, 2, 3, 2026, 2026, 0x8000, u16::MAX]);
         self.start();
         for _ in 0..20 + self.below(181) {
             self.step();
@@ -164,7 +179,11 @@ impl<W: Write> Script<W> {
     /// Arrays for some slots, a making, mostly a width.
     fn start(&mut self) {
         let (dim, working, width, residual) = self.shape();
-        self.lend(block_size(working, width.max(5)));
+        let block = block_size(working, width.max(5));
+        // Now and then it is made over what is there: making clears live marks, and leaves all else.
+        if self.driver.arrays.capacity(block, residual) == 0 || !self.rarely(8) {
+            self.lend(block);
+        }
         let seed = self.seed();
         if self.rarely(6) {
             // Making clears them.
@@ -200,8 +219,8 @@ impl<W: Write> Script<W> {
         }
         for _ in 0..room - self.below(5) {
             let line = match self.below(3) {
-                0 => format!("add {}", self.vector()),
-                _ => format!("add_multi {:x} {}", self.key(), self.vector()),
+                0 => format!("add {} {:x}", self.vector(), self.year()),
+                _ => format!("add_multi {:x} {} {:x}", self.key(), self.vector(), self.year()),
             };
             self.call(line);
         }
@@ -237,7 +256,7 @@ impl<W: Write> Script<W> {
     fn lend(&mut self, block: usize) {
         let many = self.rarely(12);
         let slots = if many { self.pick(&[62, 63, 64, 65, 100, 127, 128, 129, 140]) } else { self.pick(&[1, 2, 3, 5, 8, 8, 12, 16, 24, 32]) };
-        let mut lengths = [slots; 8];
+        let mut lengths = [slots; 9];
         for length in lengths.iter_mut() {
             *length += if self.rarely(2) { self.below(3) } else { 0 };
         }
@@ -252,7 +271,11 @@ impl<W: Write> Script<W> {
             _ => slots.div_ceil(MARKS),
         };
         if self.rarely(25) {
-            lengths[self.below(8)] = 0;
+            lengths[self.below(9)] = 0;
+        }
+        if self.rarely(12) {
+            // The years say how many slots there is room for.
+            lengths[8] = slots - 1;
         }
         self.line(format!("lend {}", lengths.map(|n| format!("{n:x}")).join(" ")));
     }
@@ -360,10 +383,13 @@ impl<W: Write> Script<W> {
             }
             4 | 5 if self.is_one_trait() => self.poke_codes(),
             _ if self.full() && self.rarely(5) => {
-                let line = format!("remove {:x}", self.key());
+                let line = format!("remove {:x} {:x}", self.key(), self.present());
                 self.call(line);
                 self.call("compact".to_string());
             }
+            6 | 7 if self.other_years => self.years_of_key(),
+            8 if self.rarely(8) => self.short_years(),
+            9 if self.rarely(30) && !self.register => self.cuts(),
             _ => self.plain(),
         }
     }
@@ -381,11 +407,11 @@ impl<W: Write> Script<W> {
     fn plain(&mut self) {
         let look_up = if self.register { 62 } else { 100 };
         let line = match self.below(look_up) {
-            0..=4 => format!("add {}", self.vector()),
-            5..=18 => format!("add_keyed {:x} {}", self.key(), self.vector()),
-            19..=28 => format!("add_multi {:x} {}", self.key(), self.vector()),
+            0..=4 => format!("add {} {:x}", self.vector(), self.year()),
+            5..=18 => format!("add_keyed {:x} {} {:x} {:x}", self.key(), self.vector(), self.year(), self.present()),
+            19..=28 => format!("add_multi {:x} {} {:x}", self.key(), self.vector(), self.year()),
             29..=33 => format!("relabel {:x} {:x}", self.key(), self.key()),
-            34..=36 => format!("remove {:x}", self.key()),
+            34..=36 => format!("remove {:x} {:x}", self.key(), self.present()),
             37..=41 => self.remove_at(),
             42..=45 => format!("key_of {:x}", self.slot()),
             46..=48 => format!("contains {:x}", self.key()),
@@ -427,7 +453,38 @@ impl<W: Write> Script<W> {
             _ => None,
         };
         let key = if self.rarely(3) { self.key() } else { key.unwrap_or_else(|| self.keys[0]) };
-        format!("remove_at {key:x} {slot:x}")
+        format!("remove_at {key:x} {slot:x} {:x}", self.present())
+    }
+
+    /// Of a new slot: 1, but in some histories any, mostly near the present.
+    fn year(&mut self) -> u16 {
+        if self.other_years && self.rarely(2) { self.other_year() } else { 1 }
+    }
+
+    fn other_year(&mut self) -> u16 {
+        match self.below(12) {
+            0 => 0,
+            1 => 2,
+            2 => u16::MAX,
+            3 => self.random.word() as u16,
+            // Near the year 0 this gives the largest ones too.
+            _ => self.near_present(),
+        }
+    }
+
+    fn near_present(&mut self) -> u16 {
+        self.present.wrapping_add(self.pick(&[0, 0, 1, 1, 2, u16::MAX]))
+    }
+
+    /// The present year that a call is told: the index has no clock, so it may go back.
+    fn present(&mut self) -> u16 {
+        match self.below(12) {
+            0 => 0,
+            1 => 1,
+            2 => u16::MAX,
+            3 => self.random.word() as u16,
+            _ => self.near_present(),
+        }
     }
 
     fn position(&mut self) -> usize {
@@ -470,7 +527,7 @@ impl<W: Write> Script<W> {
 
     /// Scales and code bytes, which the Rust follows. A NaN doesn't stay for long.
     fn poke_data(&mut self) {
-        let (name, array) = ARRAYS[self.pick(&[0, 1, 1, 1, 6, 7])];
+        let (name, array) = ARRAYS[self.pick(if self.other_years { &[0, 1, 1, 1, 6, 7, 8, 8] } else { &[0, 1, 1, 1, 6, 7] })];
         let length = self.driver.arrays.length(array);
         if length == 0 {
             return;
@@ -478,10 +535,14 @@ impl<W: Write> Script<W> {
         let per_slot = if matches!(array, Array::Codes | Array::Codes2) { block_size(self.entries().1, 4) } else { 1 };
         let within = (self.driver.record.n.min(4096) * per_slot).clamp(1, length);
         let at = if self.rarely(8) { self.below(length) } else { self.below(within) };
-        let value = if matches!(array, Array::Codes | Array::Codes2) { self.random.below(256) } else { self.data() };
+        let value = match array {
+            Array::Codes | Array::Codes2 => self.random.below(256),
+            Array::Years => self.other_year() as u64,
+            _ => self.data(),
+        };
         let old = self.driver.arrays.get(array, at);
         self.line(format!("set {name} {at:x} {value:x}"));
-        if value & 0x7fff_ffff > 0x7f80_0000 {
+        if array != Array::Years && value & 0x7fff_ffff > 0x7f80_0000 {
             for _ in 0..4 {
                 self.plain();
             }
@@ -515,6 +576,61 @@ impl<W: Write> Script<W> {
         for _ in 0..4 {
             self.plain();
         }
+    }
+
+    /// A key of several slots, of which one is to be kept and the others may go: overwritten, removed whole and by single slots.
+    fn years_of_key(&mut self) {
+        let Driver { record, arrays, .. } = &self.driver;
+        if !fits(record, arrays) {
+            return self.plain();
+        }
+        let held: Vec<u64> = (0..record.n).filter(|&slot| arrays.keyed[slot]).map(|slot| arrays.keys[slot]).collect();
+        let key = if held.is_empty() { self.keys[0] } else { self.pick(&held) };
+        for _ in 0..self.below(3) {
+            let line = format!("add_multi {key:x} {} {:x}", self.vector(), self.year());
+            self.call(line);
+        }
+        let Driver { record, arrays, .. } = &self.driver;
+        let mut slots: Vec<usize> = (0..record.n).filter(|&slot| arrays.keyed[slot] && arrays.keys[slot] == key).collect();
+        slots.sort_by_key(|&slot| arrays.held[slot]);
+        if slots.is_empty() {
+            return self.plain();
+        }
+        let present = self.present();
+        let kept = self.below(slots.len());
+        for (position, slot) in slots.iter().enumerate() {
+            let later = if present > 0 && present < u16::MAX { present + 1 } else { 0 };
+            let year = if position == kept { self.pick(&[0, later]) } else { self.pick(&[1, present.max(1)]) };
+            self.line(format!("set years {slot:x} {year:x}"));
+        }
+        for _ in 0..1 + self.below(3) {
+            // The first is overwritten, and the last moves to the gap.
+            let at = self.pick(&[0, kept, slots.len() - 1]);
+            let line = match self.below(4) {
+                0 => format!("remove {key:x} {present:x}"),
+                1 => format!("add_keyed {key:x} {} {:x} {present:x}", self.vector(), self.year()),
+                _ => format!("remove_at {key:x} {:x} {present:x}", slots[at]),
+            };
+            self.call(line);
+            self.call("dump".to_string());
+        }
+    }
+
+    /// Dead slots in use, so that arrays lent anew fit if they are long enough; then years for one slot fewer, which is 13.
+    fn short_years(&mut self) {
+        let (slots, dim, seed) = (1 + self.below(8), 1 + self.below(8), self.seed());
+        let bytes = slots * block_size(dim, 5);
+        let lend = |years: usize| format!("lend {bytes:x} {slots:x} {slots:x} {slots:x} {slots:x} 1 0 0 {years:x}");
+        self.line(lend(slots));
+        self.call(format!("new {dim:x} {seed:x}"));
+        self.line(format!("field n {slots:x}"));
+        for years in [slots - 1, slots] {
+            self.line(lend(years));
+            for _ in 0..1 + self.below(3) {
+                self.plain();
+            }
+        }
+        self.start();
     }
 
     /// Keys, marks and the record: mostly 13, until all is put back or made anew.
@@ -624,13 +740,26 @@ impl<W: Write> Script<W> {
         }
     }
 
+    /// Files with years are kept from most histories that have none.
     fn file(&mut self) -> String {
         let at = self.below(self.files.len() + 1);
-        let mut file = if at == self.files.len() || self.rarely(3) { self.made_up() } else { self.files[at].clone() };
+        let made_up = at == self.files.len() || self.rarely(3) || has_years(&self.files[at]) && !self.other_years && !self.rarely(6);
+        let mut file = if made_up { self.made_up() } else { self.files[at].clone() };
         if self.rarely(2) {
             self.spoil(&mut file);
         }
         bytes(&file)
+    }
+
+    /// A file with years, a small one if it was written, cut at every place, of a long one at the last ones.
+    fn cuts(&mut self) {
+        let version = self.pick(&[262, 263, 264]);
+        let written = self.files.iter().find(|file| has_years(file) && file.len() < 100).cloned();
+        let file = written.filter(|_| self.rarely(3)).unwrap_or_else(|| self.made_up_as(version));
+        for length in file.len().saturating_sub(100)..=file.len() {
+            self.call(format!("read {}", bytes(&file[..length])));
+        }
+        self.call("dump".to_string());
     }
 
     fn half(&mut self) -> u16 {
@@ -641,9 +770,20 @@ impl<W: Write> Script<W> {
         }
     }
 
-    /// A file of any version, one of version 1 with halves as 257 has them: it is refused by its version. Numbers that are refused are rare.
+    /// A file of any version, one of version 1 with halves as 257 has them, one of 265 with the blocks of 262: both are refused by their version.
+    /// Numbers that are refused are rare.
     fn made_up(&mut self) -> Vec<u8> {
-        let version = self.pick(&[1u16, 257, 258, 259, 259, 260, 260, 261, 261]);
+        let version = self.pick(&[1, 257, 258, 259, 259, 259, 260, 260, 260, 261, 261, 261, 262, 263, 264, 265]);
+        self.made_up_as(version)
+    }
+
+    fn made_up_as(&mut self, stated: u16) -> Vec<u8> {
+        // The version that has the same blocks before the years.
+        let version = match stated {
+            262..=264 => stated - 3,
+            265 => 259,
+            _ => stated,
+        };
         let dim = self.dim();
         let working = match self.below(12) {
             0 => 1,
@@ -657,7 +797,7 @@ impl<W: Write> Script<W> {
         let most = if self.rarely(10) { room.min(140) } else { room.min(12) };
         let count = if self.rarely(10) { room + 1 } else { self.below(most + 1) };
         let mut file = b"VECQ".to_vec();
-        file.extend(version.to_le_bytes());
+        file.extend(stated.to_le_bytes());
         file.extend((working as u16).to_le_bytes());
         file.extend((dim as u32).to_le_bytes());
         file.extend(self.seed().to_le_bytes());
@@ -673,9 +813,26 @@ impl<W: Write> Script<W> {
             // It ends before its key count.
             file.truncate(file.len() - self.below(4));
         } else if version >= 259 {
-            self.key_entries(&mut file, count);
+            // 19 comes after the years' 14.
+            let unsound = if stated > version { 4 } else { 12 };
+            self.key_entries(&mut file, count, unsound);
+        }
+        if stated > version {
+            self.year_block(&mut file, count);
         }
         file
+    }
+
+    /// Often all 1, so that the index is one without years; now and then cut short.
+    fn year_block(&mut self, file: &mut Vec<u8>, count: usize) {
+        let others = if self.other_years { !self.rarely(4) } else { self.rarely(6) };
+        for _ in 0..count {
+            let year = if others && !self.rarely(3) { self.other_year() } else { 1 };
+            file.extend(year.to_le_bytes());
+        }
+        if count > 0 && self.rarely(4) {
+            file.truncate(file.len() - 1 - self.below(2 * count));
+        }
     }
 
     fn stage(&mut self, file: &mut Vec<u8>, count: usize, block: usize) {
@@ -685,8 +842,8 @@ impl<W: Write> Script<W> {
         file.extend((0..count * block).map(|_| self.random.word() as u8));
     }
 
-    /// Some slots in any order; now and then one twice, or one past the count.
-    fn key_entries(&mut self, file: &mut Vec<u8>, count: usize) {
+    /// Some slots in any order; in one of `unsound` tables one twice, or one past the count.
+    fn key_entries(&mut self, file: &mut Vec<u8>, count: usize, unsound: usize) {
         let mut slots: Vec<usize> = (0..count).filter(|_| !self.rarely(3)).collect();
         for i in 1..slots.len() {
             let other = self.below(i + 1);
@@ -694,7 +851,7 @@ impl<W: Write> Script<W> {
                 slots.swap(i, other);
             }
         }
-        if self.rarely(12) {
+        if self.rarely(unsound) {
             slots.push(self.below(count + 1));
         }
         file.extend((slots.len() as u32).to_le_bytes());
@@ -715,7 +872,7 @@ impl<W: Write> Script<W> {
             1 => file.truncate(length - 1 - self.below(16)),
             2 => file.extend((0..1 + self.below(5)).map(|_| self.random.word() as u8)),
             3 => {
-                let version = self.pick(&[0u16, 1, 2, 256, 257, 258, 259, 260, 261, 262]);
+                let version = self.pick(&[0u16, 1, 2, 256, 257, 258, 259, 260, 261, 262, 263, 264, 265, 266, u16::MAX]);
                 file[4..6].copy_from_slice(&version.to_le_bytes());
             }
             4 => {

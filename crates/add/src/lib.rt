@@ -14,10 +14,15 @@ use place::Adding;
 use refusal::Refusal;
 
 // Appends a slot without a key.
-pub fn add(index: Index, arrays: &mut LentMut<'_>, vector: &[f32]) -> Result<Added, Refusal>
+pub fn add(
+    index: Index,
+    arrays: &mut LentMut<'_>,
+    vector: &[f32],
+    year: u16,
+) -> Result<Added, Refusal>
     ensures same { SameLent arrays.old arrays.new }
     ensures answers { added index (verdict result) (contents_mut arrays.new)
-        ≡ call index (contents_mut arrays.old) (Step.add (item_of vector.now)) }
+        ≡ call index (contents_mut arrays.old) (Step.add (item_of vector.now) year) }
 {
-    place::put(index, arrays, Adding::Unkeyed, vector)
+    place::put(index, arrays, Adding::Unkeyed, vector, year)
 }

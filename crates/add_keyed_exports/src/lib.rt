@@ -21,13 +21,16 @@ pub extern "C" fn vecq_raw_add_keyed(
     alive: &mut [u64],
     codes2: &mut [u8],
     scales2: &mut [u32],
+    years: &mut [u16],
     key: u64,
     vector: &[f32],
+    year: u16,
+    present: u16,
 ) -> u8
     ensures { left result fields.new answer.new
-        (lent codes.new scales.new keys.new keyed.new held.new alive.new codes2.new scales2.new)
-        ≡ left_by 1 (Step.add_keyed key (item_of vector.now)) fields.old answer.old
-        (lent codes.old scales.old keys.old keyed.old held.old alive.old codes2.old scales2.old) }
+        (lent codes.new scales.new keys.new keyed.new held.new alive.new codes2.new scales2.new years.new)
+        ≡ left_by 1 (Step.add_keyed key (item_of vector.now) year present) fields.old answer.old
+        (lent codes.old scales.old keys.old keyed.old held.old alive.old codes2.old scales2.old years.old) }
 {
     let Some(index) = words::record_beside(fields, answer, 1) else {
         return 13;
@@ -41,7 +44,8 @@ pub extern "C" fn vecq_raw_add_keyed(
         alive,
         codes2,
         scales2,
+        years,
     };
-    let added_keyed = add_keyed::add_keyed(index, &mut arrays, key, vector);
+    let added_keyed = add_keyed::add_keyed(index, &mut arrays, key, vector, year, present);
     answer_words::put_added(added_keyed, fields, answer)
 }

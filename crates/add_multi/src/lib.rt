@@ -19,10 +19,11 @@ pub fn add_keyed_multi(
     arrays: &mut LentMut<'_>,
     key: u64,
     vector: &[f32],
+    year: u16,
 ) -> Result<Added, Refusal>
     ensures same { SameLent arrays.old arrays.new }
     ensures answers { added index (verdict result) (contents_mut arrays.new)
-        ≡ call index (contents_mut arrays.old) (Step.add_multi key (item_of vector.now)) }
+        ≡ call index (contents_mut arrays.old) (Step.add_multi key (item_of vector.now) year) }
 {
-    place::put(index, arrays, Adding::Multi(key), vector)
+    place::put(index, arrays, Adding::Multi(key), vector, year)
 }

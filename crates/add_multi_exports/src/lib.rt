@@ -21,13 +21,15 @@ pub extern "C" fn vecq_raw_add_keyed_multi(
     alive: &mut [u64],
     codes2: &mut [u8],
     scales2: &mut [u32],
+    years: &mut [u16],
     key: u64,
     vector: &[f32],
+    year: u16,
 ) -> u8
     ensures { left result fields.new answer.new
-        (lent codes.new scales.new keys.new keyed.new held.new alive.new codes2.new scales2.new)
-        ≡ left_by 1 (Step.add_multi key (item_of vector.now)) fields.old answer.old
-        (lent codes.old scales.old keys.old keyed.old held.old alive.old codes2.old scales2.old) }
+        (lent codes.new scales.new keys.new keyed.new held.new alive.new codes2.new scales2.new years.new)
+        ≡ left_by 1 (Step.add_multi key (item_of vector.now) year) fields.old answer.old
+        (lent codes.old scales.old keys.old keyed.old held.old alive.old codes2.old scales2.old years.old) }
 {
     let Some(index) = words::record_beside(fields, answer, 1) else {
         return 13;
@@ -41,7 +43,8 @@ pub extern "C" fn vecq_raw_add_keyed_multi(
         alive,
         codes2,
         scales2,
+        years,
     };
-    let added_multi = add_multi::add_keyed_multi(index, &mut arrays, key, vector);
+    let added_multi = add_multi::add_keyed_multi(index, &mut arrays, key, vector, year);
     answer_words::put_added(added_multi, fields, answer)
 }

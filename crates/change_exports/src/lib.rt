@@ -19,19 +19,20 @@ pub extern "C" fn vecq_raw_relabel(
     alive: &[u64],
     codes2: &[u8],
     scales2: &[u32],
+    years: &[u16],
     old: u64,
     new: u64,
 ) -> u8
     ensures { left result fields.new answer.new
-        (lent codes.now scales.now keys.new keyed.now held.now alive.now codes2.now scales2.now)
+        (lent codes.now scales.now keys.new keyed.now held.now alive.now codes2.now scales2.now years.now)
         ≡ left_by 1 (Step.relabel old new) fields.old answer.old
-        (lent codes.now scales.now keys.old keyed.now held.now alive.now codes2.now scales2.now) }
+        (lent codes.now scales.now keys.old keyed.now held.now alive.now codes2.now scales2.now years.now) }
 {
     let Some(index) = words::record_beside(fields, answer, 1) else {
         return 13;
     };
     let relabelled = relabel::relabel(
-        index, codes, scales, keys, keyed, held, alive, codes2, scales2, old, new,
+        index, codes, scales, keys, keyed, held, alive, codes2, scales2, years, old, new,
     );
     answer_words::put_changed(relabelled, fields, answer)
 }
@@ -48,18 +49,20 @@ pub extern "C" fn vecq_raw_remove_keyed(
     alive: &mut [u64],
     codes2: &[u8],
     scales2: &[u32],
+    years: &[u16],
     key: u64,
+    present: u16,
 ) -> u8
     ensures { left result fields.new answer.new
-        (lent codes.now scales.now keys.now keyed.new held.new alive.new codes2.now scales2.now)
-        ≡ left_by 1 (Step.remove key) fields.old answer.old
-        (lent codes.now scales.now keys.now keyed.old held.old alive.old codes2.now scales2.now) }
+        (lent codes.now scales.now keys.now keyed.new held.new alive.new codes2.now scales2.now years.now)
+        ≡ left_by 1 (Step.remove key present) fields.old answer.old
+        (lent codes.now scales.now keys.now keyed.old held.old alive.old codes2.now scales2.now years.now) }
 {
     let Some(index) = words::record_beside(fields, answer, 1) else {
         return 13;
     };
     let removed = removal::remove_keyed(
-        index, codes, scales, keys, keyed, held, alive, codes2, scales2, key,
+        index, codes, scales, keys, keyed, held, alive, codes2, scales2, years, key, present,
     );
     answer_words::put_changed(removed, fields, answer)
 }
@@ -76,19 +79,21 @@ pub extern "C" fn vecq_raw_remove_keyed_at(
     alive: &mut [u64],
     codes2: &[u8],
     scales2: &[u32],
+    years: &[u16],
     key: u64,
     slot: usize,
+    present: u16,
 ) -> u8
     ensures { left result fields.new answer.new
-        (lent codes.now scales.now keys.now keyed.new held.new alive.new codes2.now scales2.now)
-        ≡ left_by 1 (Step.remove_at key slot) fields.old answer.old
-        (lent codes.now scales.now keys.now keyed.old held.old alive.old codes2.now scales2.now) }
+        (lent codes.now scales.now keys.now keyed.new held.new alive.new codes2.now scales2.now years.now)
+        ≡ left_by 1 (Step.remove_at key slot present) fields.old answer.old
+        (lent codes.now scales.now keys.now keyed.old held.old alive.old codes2.now scales2.now years.now) }
 {
     let Some(index) = words::record_beside(fields, answer, 1) else {
         return 13;
     };
     let removed_at = removal::remove_keyed_at(
-        index, codes, scales, keys, keyed, held, alive, codes2, scales2, key, slot,
+        index, codes, scales, keys, keyed, held, alive, codes2, scales2, years, key, slot, present,
     );
     answer_words::put_changed(removed_at, fields, answer)
 }

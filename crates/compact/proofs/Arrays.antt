@@ -119,6 +119,14 @@ module _ (h : Header) (a : Arrays) (n : ℕ) (space : n ≤ capacity h a) (old :
       ap (λ (ys : List ℕ). over ys (no_marks a.alive))
       (tab-map (λ i. 1) (λ i. 1) nums (λ i d l. refl) ∙ sym (rising-map (λ s. alive_of s.mark) (λ k p q c. refl) (λ k. 0) ts ∙ kept-alive h a n))
 
+  -- ---- years
+
+  years-kept : gathered from kept 0 a.years ≡ over (map (λ s. s.year) rs) a.years
+  unfolding slot_at
+  years-kept =
+      gathered-kept a.alive n old places 0 a.years
+      ∙ ap (λ (ys : List ℕ). over ys a.years) (sym (rising-map (λ s. s.year) (λ k p q c. refl) (λ k. 0) ts ∙ kept_map h a n (λ s. s.year)))
+
   -- ---- all arrays
 
   abbrev pub closed_up : Arrays
@@ -132,6 +140,7 @@ module _ (h : Header) (a : Arrays) (n : ℕ) (space : n ≤ capacity h a) (old :
         alive = over (tab (λ i. 1) kept) (no_marks a.alive);
         codes2 = gathered_blocks from (cond h.residual kept 0) (block_size h) a.codes2;
         scales2 = gathered from (cond h.residual kept 0) 0 a.scales2;
+        years = gathered from kept 0 a.years;
       }
 
   pub compacted-arrays : closed_up ≡ overlay (unmarked a) (compacted (tab (slot_at h a) n))
@@ -146,6 +155,7 @@ module _ (h : Header) (a : Arrays) (n : ℕ) (space : n ≤ capacity h a) (old :
         alive = alive-marks j;
         codes2 = second-blocks j;
         scales2 = second-scales j;
+        years = years-kept j;
       }
 
 -- ---- what the program has done
@@ -164,6 +174,7 @@ pub record ClosedUp (x : Index) (a b : Arrays) (slots : List ℕ) (n size second
   pub alive : b.alive ≡ over (tab (λ i. 1) n) (no_marks a.alive)
   pub codes2 : b.codes2 ≡ gathered_blocks slots second size a.codes2
   pub scales2 : b.scales2 ≡ gathered slots second 0 a.scales2
+  pub years : b.years ≡ gathered slots n 0 a.years
 
 module _ (x : Index) (a : Arrays) (e : fit x a ≡ true) where
   fits : Fits x a
@@ -191,6 +202,9 @@ module _ (x : Index) (a : Arrays) (e : fit x a ≡ true) where
       (omega (arith, kept-few, room.alive), omega (arith, kept-few, room.few)),
     )
 
+    pub years-room : Downward slots n (length a.years)
+    years-room = down (length a.years) room.years
+
     pub second-room : (size second : ℕ) → size ≡ block_size (header_of x) → second ≡ cond x.residual n 0 → Downward slots second (length a.codes2 / size) × Downward slots second (length a.scales2)
     second-room size second f g = rw (f, g) (go x.residual refl)
       where
@@ -213,6 +227,7 @@ module _ (x : Index) (a : Arrays) (e : fit x a ≡ true) where
         alive = (rw c.many at c.alive) j;
         codes2 = (rw (c.second_is, c.listed, c.many, c.size_is) at c.codes2) j;
         scales2 = (rw (c.second_is, c.listed, c.many) at c.scales2) j;
+        years = (rw (c.listed, c.many) at c.years) j;
       })
       ∙ compacted-arrays (header_of x) a x.n fits.room a.held room.held
     where

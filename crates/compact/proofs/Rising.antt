@@ -12,15 +12,14 @@ use Rattle.lists.specs.Lists.{tab, below}
 use Rattle.lists.specs.Keep.{bit, count}
 use Rattle.lists.proofs.Keep.{count-append, count_next}
 use Rattle.lists.proofs.Front.{tab-map}
-use Rattle.encode.specs.Coded.{Code}
-use Rattle.index.specs.State.{Mark, dead, unkeyed, keyed, Slot, has_key, key_word, position, new_slot, with_mark}
+use Rattle.index.specs.State.{Mark, dead, unkeyed, keyed, Slot, has_key, key_word, position, with_mark}
 use Rattle.index.specs.Step.{holds, one_more, rising}
 use Rattle.slot_keys.specs.Has.{slot_has}
 use Rattle.held.specs.Held.{held_count}
 use Rattle.held_order.specs.Restored.{rising_position}
 
 -- what doesn't look at positions stays
-pub rising-map : {B : Type 0} (g : Slot → B) → ((k p q : ℕ) (c : Code) → g (new_slot (keyed k p) c) ≡ g (new_slot (keyed k q) c)) →
+pub rising-map : {B : Type 0} (g : Slot → B) → ((k p q : ℕ) (s : Slot) → g (with_mark s (keyed k p)) ≡ g (with_mark s (keyed k q))) →
     (seen : ℕ → ℕ) (ss : List Slot) → map g (rising seen ss) ≡ map g ss
 unfolding rising
 rising-map g same seen [] = refl
@@ -29,7 +28,7 @@ rising-map g same seen (s ∷ ss) = go s.mark (λ next. rising-map g same next s
     go : (m : Mark) → ((next : ℕ → ℕ) → map g (rising next ss) ≡ map g ss) → map g (rising seen (with_mark s m ∷ ss)) ≡ g (with_mark s m) ∷ map g ss
     go (dead u) ih = rw (ih seen)
     go (unkeyed u) ih = rw (ih seen)
-    go (keyed k p) ih = rw (ih (one_more k seen), same k (seen k) p s.code)
+    go (keyed k p) ih = rw (ih (one_more k seen), same k (seen k) p s)
 
 pub rising-length : (seen : ℕ → ℕ) (ss : List Slot) → length (rising seen ss) ≡ length ss
 rising-length seen ss =

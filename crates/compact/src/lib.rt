@@ -123,10 +123,11 @@ fn close_up(
     alive: &mut [u64],
     codes2: &mut [u8],
     scales2: &mut [u32],
+    years: &mut [u16],
 ) -> Index
-    requires { fit index (lent codes.old scales.old keys.old keyed.old held.old alive.old codes2.old scales2.old) ≡ true }
-    ensures { made index (granted result) (lent codes.new scales.new keys.new keyed.new held.new alive.new codes2.new scales2.new)
-        ≡ call index (lent codes.old scales.old keys.old keyed.old held.old alive.old codes2.old scales2.old)
+    requires { fit index (lent codes.old scales.old keys.old keyed.old held.old alive.old codes2.old scales2.old years.old) ≡ true }
+    ensures { made index (granted result) (lent codes.new scales.new keys.new keyed.new held.new alive.new codes2.new scales2.new years.new)
+        ≡ call index (lent codes.old scales.old keys.old keyed.old held.old alive.old codes2.old scales2.old years.old)
         Step.compact }
 {
     let n = live_slots(alive, index.n, held);
@@ -139,6 +140,7 @@ fn close_up(
         held,
         second_stages(index.residual, n),
     );
+    gather(years, held, n);
     gather_marks(keys, keyed, held, alive, n);
     with_kept(index, n)
 }
@@ -160,5 +162,6 @@ pub fn compact(index: Index, arrays: &mut LentMut<'_>) -> Result<Index, Refusal>
         arrays.alive,
         arrays.codes2,
         arrays.scales2,
+        arrays.years,
     ))
 }

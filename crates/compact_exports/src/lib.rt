@@ -19,11 +19,12 @@ pub extern "C" fn vecq_raw_compact(
     alive: &mut [u64],
     codes2: &mut [u8],
     scales2: &mut [u32],
+    years: &mut [u16],
 ) -> u8
     ensures { left result fields.new []
-        (lent codes.new scales.new keys.new keyed.new held.new alive.new codes2.new scales2.new)
+        (lent codes.new scales.new keys.new keyed.new held.new alive.new codes2.new scales2.new years.new)
         ≡ left_by 0 compact fields.old []
-        (lent codes.old scales.old keys.old keyed.old held.old alive.old codes2.old scales2.old) }
+        (lent codes.old scales.old keys.old keyed.old held.old alive.old codes2.old scales2.old years.old) }
 {
     let Some(index) = words::record_in(fields) else {
         return 13;
@@ -37,6 +38,7 @@ pub extern "C" fn vecq_raw_compact(
         alive,
         codes2,
         scales2,
+        years,
     };
     let compacted = compact::compact(index, &mut arrays);
     answer_words::put_made(compacted, fields)

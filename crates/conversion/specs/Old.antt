@@ -57,9 +57,9 @@ module _ (of : ℕ → ℕ) (file : List ℕ) where
         block = block_at (old_block file) i (drop (count_in file * 4) (old_stages file));
       }
 
-  -- all slots are live and without a key
+  -- all slots are live and without a key. 02, Req 06: "Older files read as year 1 throughout."
   abbrev pub old_slots : List Slot
-  old_slots = tab (λ i. new_slot (unkeyed 0) (record { first = old_stage i; second = none })) (count_in file)
+  old_slots = tab (λ i. new_slot (unkeyed 0) (record { first = old_stage i; second = none }) 1) (count_in file)
 
   unfoldable pub old_state : State
   old_state = record { header = old_header file; cascade = false; slots = old_slots }

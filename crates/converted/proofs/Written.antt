@@ -22,13 +22,16 @@ use Rattle.half.specs.Half.{narrowed}
 use Rattle.codes.specs.Slots.{block_at}
 use Rattle.codes.specs.Stage.{Stage}
 use Rattle.index.specs.Form.{form_of}
-use Rattle.index.specs.File.{Entry, le_bytes, magic, version_of, stage_bytes, second_stages, key_entries, file_of}
+use Rattle.index.specs.File.{Entry, le_bytes, magic, no_duty, stage_bytes, second_stages, key_entries, file_of}
 use Rattle.index.specs.Sound.{Ranged}
 use Rattle.index.specs.Read.{little_endian, dim_in, count_in}
 use Rattle.index.proofs.Blocks.{length-block, joined-blocks}
+use Rattle.index.proofs.Fits.{each_all}
 use Rattle.index.proofs.Kept.{when-none}
 use Rattle.index.proofs.Read.{all-passed}
 use Rattle.round_trip.specs.Back.{Holdable, Writable}
+use Rattle.round_trip.specs.Plain.{plain_file}
+use Rattle.round_trip.proofs.Plain.{written-as-before}
 use Rattle.conversion.specs.Old.{old_header, old_block, old_stages, old_end, old_head_fault, old_body_fault, old_stage}
 use Rattle.conversion.specs.Scales.{halves_of}
 use Rattle.conversion.specs.Converted.{conversion_refusal, scale_bytes, code_bytes, new_head, no_keys, converted}
@@ -136,7 +139,7 @@ module _ (file : List ℕ) (t : Convertible file) where
         few = omega (arith, bounds.1, length-tab (old_entry file) n);
         entries =
             each-tab (Holdable (old_header file)) (old_entry file) n
-            (λ i l. record { shape = record { first = block-sized i l; second = refl }; scale = scale-low i l; scale2 = tt; key = tt });
+            (λ i l. record { shape = record { first = block-sized i l; second = refl }; scale = scale-low i l; scale2 = tt; key = tt; year = omega arith });
       }
 
   -- ---- its bytes
@@ -171,25 +174,28 @@ module _ (file : List ℕ) (t : Convertible file) where
   stage-is : stage_bytes (map (λ e. e.code.first) (old_entries file)) ≡ halves_of (scale_bytes file) ++ code_bytes file
   stage-is = ap stage_bytes (map-tab (λ (e : Entry). e.code.first) (old_entry file) n) ∙ ap₂ (λ (hs bs : List ℕ). hs ++ bs) halves-are codes-are
 
-  -- the head for m slots, its working_dim field 0 where `same`
-  abbrev head_of : (same : Bool) → (m : ℕ) → List ℕ
-  head_of same m =
-      magic ++ le_bytes 2 259 ++ le_bytes 2 (cond same 0 (dim_in file)) ++ le_bytes 4 (dim_in file) ++ le_bytes 8 (little_endian 8 (drop 12 file)) ++ le_bytes 4 m
+  no_years : no_duty (old_entries file) ≡ true
+  no_years = each_all (λ e. eqb e.year 1) (old_entries file) (each-tab (λ e. eqb e.year 1 ≡ true) (old_entry file) n (λ i l. refl))
 
-  head-is : head_of true n ≡ new_head file
+  -- the head for m slots, its working_dim field 0 where `same`
+  abbrev head_of : (version : ℕ) → (same : Bool) → (m : ℕ) → List ℕ
+  head_of v same m =
+      magic ++ le_bytes 2 v ++ le_bytes 2 (cond same 0 (dim_in file)) ++ le_bytes 4 (dim_in file) ++ le_bytes 8 (little_endian 8 (drop 12 file)) ++ le_bytes 4 m
+
+  head-is : head_of 259 true n ≡ new_head file
   head-is = ap (λ (bs : List ℕ). magic ++ le_bytes 2 259 ++ le_bytes 2 0 ++ bs) fields
 
   abbrev blocks : (head stage : List ℕ) → (seconds : List Stage) → (keys : List (List ℕ)) → List ℕ
   blocks head stage seconds keys = head ++ [] ++ stage ++ stage_bytes seconds ++ le_bytes 4 (length keys) ++ joined keys
 
-  as-written : file_of (old_header file) (old_entries file) ≡ blocks (head_of true n) (halves_of (scale_bytes file) ++ code_bytes file) [] []
-  unfolding file_of version_of form_of old_header
+  as-written : file_of (old_header file) (old_entries file) ≡ blocks (head_of 259 true n) (halves_of (scale_bytes file) ++ code_bytes file) [] []
+  unfolding plain_file form_of old_header
   as-written =
       let same : eqb (dim_in file) (dim_in file) ≡ true = eq-eqb (dim_in file) (dim_in file) refl in
       let many : length (old_entries file) ≡ n = length-tab (old_entry file) n in
       let seconds : second_stages (old_entries file) ≡ [] = one-stage (old_entries file) (each-tab (λ e. e.code.second ≡ none) (old_entry file) n (λ i l. refl)) in
       let keys : key_entries 0 (old_entries file) ≡ [] = no_entries 0 (old_entries file) (each-tab (λ e. e.key ≡ none) (old_entry file) n (λ i l. refl)) in
-      λ i. blocks (head_of (same i) (many i)) (stage-is i) (seconds i) (keys i)
+      written-as-before (old_header file) (old_entries file) no_years ∙ (λ i. blocks (head_of 259 (same i) (many i)) (stage-is i) (seconds i) (keys i))
 
   put-together : (head halves codes : List ℕ) → blocks head (halves ++ codes) [] [] ≡ head ++ halves ++ codes ++ no_keys
   unfolding joined

@@ -24,9 +24,9 @@ ReadsRounded = (file : List ℕ) → Convertible file → (a : Arrays) → read_
 abbrev pub RefusesAlike : Type 0
 RefusesAlike = (file : List ℕ) (a : Arrays) → count_in file ≤ capacity (old_header file) a → old_refusal file a ≡ conversion_refusal file
 
--- a slot of a version 1 file, without a key, its scale as it stands
+-- a slot of a version 1 file, without a key or a duty, its scale as it stands
 abbrev pub old_entry : (file : List ℕ) → (i : ℕ) → Entry
-old_entry file i = record { code = record { first = old_stage (λ x. x) file i; second = none }; key = none }
+old_entry file i = record { code = record { first = old_stage (λ x. x) file i; second = none }; key = none; year = 1 }
 
 abbrev pub old_entries : (file : List ℕ) → List Entry
 old_entries file = tab (old_entry file) (count_in file)

@@ -1,16 +1,16 @@
 // Drives every call of the index from the lines of standard input, and prints what each answered. An answer `?` says that the line can't be read.
 // Numbers are hexadecimal; a vector is the binary32 patterns of its entries, eight digits each, run together, and `-` where it has none.
 //
-//   lend CODES SCALES KEYS KEYED HELD ALIVE CODES2 SCALES2   arrays of these lengths, each element 0
-//   set ARRAY I V, field NAME V                              an element of an array, a field of the record; an element of `alive` has 64 marks
+//   lend CODES SCALES KEYS KEYED HELD ALIVE CODES2 SCALES2 YEARS   arrays of these lengths, each element 0
+//   set ARRAY I V, field NAME V                 an element of an array, a field of the record; an element of `alive` has 64 marks
 //   new DIM SEED, working DIM WORKING SEED, residual DIM SEED, bits W, enable, compact
-//   add VEC, add_keyed KEY VEC, add_multi KEY VEC
-//   relabel OLD NEW, remove KEY, remove_at KEY SLOT
+//   add VEC YEAR, add_keyed KEY VEC YEAR PRESENT, add_multi KEY VEC YEAR
+//   relabel OLD NEW, remove KEY PRESENT, remove_at KEY SLOT PRESENT
 //   key_of SLOT, contains KEY, slot_at KEY POSITION
 //   score SLOT VEC
 //   search K PLACES VEC, search_keyed K PLACES VEC, search_cascade K R PLACES VEC
-//   length, write PLACES, read BYTES                         the file's length, the file, an index from a file
-//   dump                                                     the record and the arrays
+//   length, write PLACES, read BYTES            the file's length, the file, an index from a file
+//   dump                                        the record and the arrays
 #![tactic(auto)]
 
 ghost use Rattle.std.specs.Prelude.{◌≤◌};
@@ -46,6 +46,7 @@ struct Lengths {
     alive: usize,
     codes2: usize,
     scales2: usize,
+    years: usize,
 }
 
 impl Lengths {
@@ -58,6 +59,7 @@ impl Lengths {
         alive: 0,
         codes2: 0,
         scales2: 0,
+        years: 0,
     };
 }
 
@@ -117,6 +119,7 @@ fn answer_with_fresh<R: Read>(
     let mut alive = [0u64; 64];
     let mut codes2 = code_bytes();
     let mut scales2 = [0u32; 4096];
+    let mut years = [0u16; 4096];
     let lent = state.lent;
     let a = lent.codes.min(1048576);
     let b = lent.scales.min(4096);
@@ -126,6 +129,7 @@ fn answer_with_fresh<R: Read>(
     let f = lent.alive.min(64);
     let g = lent.codes2.min(1048576);
     let h = lent.scales2.min(4096);
+    let i = lent.years.min(4096);
     let mut arrays = LentMut {
         codes: &mut codes[..a],
         scales: &mut scales[..b],
@@ -135,6 +139,7 @@ fn answer_with_fresh<R: Read>(
         alive: &mut alive[..f],
         codes2: &mut codes2[..g],
         scales2: &mut scales2[..h],
+        years: &mut years[..i],
     };
     answer_lines(lines, out, &mut arrays, state)
 }
@@ -203,9 +208,10 @@ enum Array {
     Alive,
     Codes2,
     Scales2,
+    Years,
 }
 
-const ARRAYS: [(&[u8], Array); 8] = [
+const ARRAYS: [(&[u8], Array); 9] = [
     (b"codes", Array::Codes),
     (b"scales", Array::Scales),
     (b"keys", Array::Keys),
@@ -214,6 +220,7 @@ const ARRAYS: [(&[u8], Array); 8] = [
     (b"alive", Array::Alive),
     (b"codes2", Array::Codes2),
     (b"scales2", Array::Scales2),
+    (b"years", Array::Years),
 ];
 
 // A field of the record.
@@ -324,7 +331,7 @@ impl Command {
         }
     }
 
-    // How many numbers a line of the command has; 0 too where `request_of` reads the line in another way.
+    // How many numbers a line of the command has before its vector; 0 too where `request_of` reads the line in another way.
     fn number_count(self) -> usize
         ensures { result ≤ 3 }
     {
@@ -373,12 +380,39 @@ impl Command {
         )
     }
 
-    // How many fields it has, the command's word among them.
-    fn field_total(self) -> usize {
+    // Whether a year comes after it.
+    fn states_year(self) -> bool {
+        matches!(self, Command::Add | Command::AddKeyed | Command::AddMulti)
+    }
+
+    // Whether the present year is its last field.
+    fn tells_present(self) -> bool {
+        matches!(
+            self,
+            Command::AddKeyed | Command::Remove | Command::RemoveAt
+        )
+    }
+
+    // The field after its numbers, and its vector or bytes.
+    fn year_field(self) -> usize
+        ensures { result ≤ 5 }
+    {
         if self.has_vector() || self == Command::Read {
             return self.number_count() + 2;
         }
         self.number_count() + 1
+    }
+
+    // The field after its year.
+    fn present_field(self) -> usize
+        ensures { result ≤ 6 }
+    {
+        self.year_field() + usize::from(self.states_year())
+    }
+
+    // How many fields it has, the command's word among them.
+    fn field_total(self) -> usize {
+        self.present_field() + usize::from(self.tells_present())
     }
 
     // Which of the numbers says how many places are lent.
@@ -415,12 +449,27 @@ impl Numbers {
     const NONE: Numbers = Numbers { a: 0, b: 0, c: 0 };
 }
 
-// A line's command, its numbers, and how many entries or bytes come after them, 0 where the line has none.
+// The year that a line states, and the present year that it tells; 0 for one that it hasn't, as in `Numbers`.
+#[derive(Clone, Copy)]
+struct Years {
+    year: u16,
+    present: u16,
+}
+
+impl Years {
+    const NONE: Years = Years {
+        year: 0,
+        present: 0,
+    };
+}
+
+// A line's command, its numbers, how many entries or bytes come after them, 0 where the line has none, and its years.
 #[derive(Clone, Copy)]
 struct Call {
     command: Command,
     numbers: Numbers,
     count: usize,
+    years: Years,
 }
 
 impl Call {
@@ -428,12 +477,14 @@ impl Call {
         command: Command::Silent,
         numbers: Numbers::NONE,
         count: 0,
+        years: Years::NONE,
     };
 
     const UNREADABLE: Call = Call {
         command: Command::Unreadable,
         numbers: Numbers::NONE,
         count: 0,
+        years: Years::NONE,
     };
 }
 
@@ -463,10 +514,12 @@ fn call_of(line: &[u8], vector: &mut [f32], file: &mut [u8]) -> Option<Call> {
     let command = Command::of(line)?;
     let count = read_run(line, command, vector, file)?;
     let numbers = request_of(line, command)?;
+    let years = years_of(line, command)?;
     Some(Call {
         command,
         numbers,
         count,
+        years,
     })
 }
 
@@ -513,6 +566,21 @@ fn numbers_of(line: &[u8], command: Command) -> Option<Numbers> {
     Some(Numbers { a, b, c })
 }
 
+// The years of a line.
+fn years_of(line: &[u8], command: Command) -> Option<Years> {
+    let year = year_at(line, command.year_field(), command.states_year())?;
+    let present = year_at(line, command.present_field(), command.tells_present())?;
+    Some(Years { year, present })
+}
+
+// The year in field i of a line, or 0 where it has none.
+fn year_at(line: &[u8], i: usize, has: bool) -> Option<u16> {
+    if !has {
+        return Some(0);
+    }
+    values::number_at(line, i, 0xFFFF).map(|year| year as u16)
+}
+
 // What `set` sets in the array: a place and a value.
 fn poke_of(line: &[u8]) -> Option<Numbers> {
     if text::field_count(line) != 4 {
@@ -536,7 +604,7 @@ fn field_value(line: &[u8], field: Field) -> Option<Numbers> {
 
 // The line's length for each array, at most what the program holds.
 fn lengths_of(line: &[u8]) -> Option<Lengths> {
-    if text::field_count(line) != 9 {
+    if text::field_count(line) != 10 {
         return None;
     }
     Some(Lengths {
@@ -548,6 +616,7 @@ fn lengths_of(line: &[u8]) -> Option<Lengths> {
         alive: length_at(line, 6, 64)?,
         codes2: length_at(line, 7, 1048576)?,
         scales2: length_at(line, 8, 4096)?,
+        years: length_at(line, 9, 4096)?,
     })
 }
 
@@ -571,6 +640,7 @@ enum Done {
 // longest where they may change.
 fn change(call: Call, vector: &[f32], file: &[u8], arrays: &mut LentMut<'_>, index: Index) -> Done {
     let numbers = call.numbers;
+    let years = call.years;
     match call.command {
         Command::Set(array) => Done::Element(set_element(
             arrays,
@@ -599,12 +669,20 @@ fn change(call: Call, vector: &[f32], file: &[u8], arrays: &mut LentMut<'_>, ind
             arrays.alive,
             arrays.codes2,
             arrays.scales2,
+            arrays.years,
             index,
         ),
-        Command::Add => Done::Slot(add::add(index, arrays, vector)),
-        Command::AddKeyed => Done::Slot(add_keyed::add_keyed(index, arrays, numbers.a, vector)),
+        Command::Add => Done::Slot(add::add(index, arrays, vector, years.year)),
+        Command::AddKeyed => Done::Slot(add_keyed::add_keyed(
+            index,
+            arrays,
+            numbers.a,
+            vector,
+            years.year,
+            years.present,
+        )),
         Command::AddMulti => Done::Slot(add_multi::add_keyed_multi(
-            index, arrays, numbers.a, vector,
+            index, arrays, numbers.a, vector, years.year,
         )),
         Command::Read => Done::Record(read::from_bytes(arrays, file)),
         _ => Done::Nothing,
@@ -623,15 +701,19 @@ fn change_marks(
     alive: &mut [u64],
     codes2: &mut [u8],
     scales2: &mut [u32],
+    years: &mut [u16],
     index: Index,
 ) -> Done {
     let numbers = call.numbers;
+    let present = call.years.present;
     match call.command {
         Command::Relabel => Done::Marks(relabel::relabel(
-            index, codes, scales, keys, keyed, held, alive, codes2, scales2, numbers.a, numbers.b,
+            index, codes, scales, keys, keyed, held, alive, codes2, scales2, years, numbers.a,
+            numbers.b,
         )),
         Command::Remove => Done::Marks(removal::remove_keyed(
-            index, codes, scales, keys, keyed, held, alive, codes2, scales2, numbers.a,
+            index, codes, scales, keys, keyed, held, alive, codes2, scales2, years, numbers.a,
+            present,
         )),
         Command::RemoveAt => Done::Marks(removal::remove_keyed_at(
             index,
@@ -643,8 +725,10 @@ fn change_marks(
             alive,
             codes2,
             scales2,
+            years,
             numbers.a,
             numbers.b as usize,
+            present,
         )),
         _ => Done::Nothing,
     }
@@ -661,6 +745,7 @@ fn set_element(arrays: &mut LentMut<'_>, array: Array, i: usize, x: u64) -> bool
         Array::Alive => poke(arrays.alive, i, x),
         Array::Codes2 => poke(arrays.codes2, i, x),
         Array::Scales2 => poke(arrays.scales2, i, x),
+        Array::Years => poke(arrays.years, i, x),
     }
 }
 
@@ -673,6 +758,12 @@ trait Element: Copy {
 impl Element for u8 {
     fn of_number(x: u64) -> Option<u8> {
         u8::try_from(x).ok()
+    }
+}
+
+impl Element for u16 {
+    fn of_number(x: u64) -> Option<u16> {
+        u16::try_from(x).ok()
     }
 }
 
@@ -1157,6 +1248,7 @@ fn dump(out: &mut Printer<'_>, arrays: &Lent<'_>, index: Index) {
     put_array(out, b" alive ", arrays.alive);
     put_array(out, b" codes2 ", arrays.codes2);
     put_array(out, b" scales2 ", arrays.scales2);
+    put_array(out, b" years ", arrays.years);
 }
 
 fn put_record(out: &mut Printer<'_>, index: Index) {

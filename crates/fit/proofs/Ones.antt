@@ -10,18 +10,18 @@ use lib.ListN.{length, get_or}
 use lib.Dec.{eqb, lit<}
 use lib.Pow.{shr-shr}
 use lib.Count.{ones, ones_step, ones-le}
-use Rattle.lists.specs.Lists.{tab, total, below}
+use Rattle.lists.specs.Lists.{tab, total}
 use Rattle.lists.specs.Keep.{bit, count}
 use Rattle.lists.proofs.Laws.{tab-ext, total-next}
 use Rattle.lists.proofs.Front.{count-tab-append}
-use Rattle.positions.proofs.Slots.{count-last, count-tab}
+use Rattle.positions.proofs.Slots.{count-last}
 use Rattle.digits.specs.Digits.{bit_of}
-use Rattle.marks.specs.Live.{marks_in, live_at}
-use Rattle.marks.proofs.Words.{length-marks, bit-low, one-live, mark-at}
+use Rattle.marks.specs.Live.{marks_in}
+use Rattle.marks.proofs.Words.{length-marks, bit-low, mark-at}
 use Rattle.index.specs.State.{header_of}
 use Rattle.fit.specs.Fits.{NoneFrom, live_marks}
 use Rattle.fit.specs.Ones.{LiveIsOnes}
-use Rattle.fit.proofs.Marks.{lent-low, live-clear}
+use Rattle.fit.proofs.Marks.{live-clear}
 use Rattle.fit.proofs.Meaning.{meaning}
 use Rattle.fit.proofs.Rooms.{enough}
 
@@ -56,11 +56,6 @@ live_more ws i l =
     ∙ count-tab-append is_one mark (i * 64) 64
     ∙ ap (λ (z : ℕ). live_marks (marks_in ws) (i * 64) + z)
     (ap (count is_one) (tab-ext (λ j. mark (i * 64 + j)) (bit_of (get_or ws i 0)) 64 (λ j k. mark-at ws i j k)) ∙ sym (ones-bits (get_or ws i 0) 64 l))
-
--- `live_marks` is the number of live slots
-pub live-count : (ws : List ℕ) (n : ℕ) → live_marks (marks_in ws) n ≡ count (live_at (marks_in ws)) (below n)
-live-count ws n =
-    count-tab is_one (live_at (marks_in ws)) (λ i. get_or (marks_in ws) i 0) (λ i. i) n (λ i. one-live (get_or (marks_in ws) i 0) (lent-low ws i))
 
 -- of whole words it is the count of their ones
 pub live-is-ones : (ws : List ℕ) → ((i : ℕ) → get_or ws i 0 < 2 ^ 64) → (n : ℕ) → live_marks (marks_in ws) (n * 64) ≡ total (tab (λ i. ones (get_or ws i 0)) n)

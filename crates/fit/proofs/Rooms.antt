@@ -22,7 +22,7 @@ module _ (h : Header) (a : Arrays) (n : ℕ) (fits : n ≤ capacity h a) where
 
   second : h.residual ≡ true → (n ≤ length a.codes2 / block_size h) × (n ≤ length a.scales2)
   unfolding rooms
-  second e = let f = rw e at fits in (le_trans f (least-each 65536 _ 6 (omega arith)), le_trans f (least-each 65536 _ 7 (omega arith)))
+  second e = let f = rw e at fits in (le_trans f (least-each 65536 _ 7 (omega arith)), le_trans f (least-each 65536 _ 8 (omega arith)))
 
   pub enough : Enough h a n
   unfolding rooms
@@ -37,6 +37,7 @@ module _ (h : Header) (a : Arrays) (n : ℕ) (fits : n ≤ capacity h a) where
         alive = at 5 (omega arith);
         codes2 = λ e. (second e).0;
         scales2 = λ e. (second e).1;
+        years = at 6 (omega arith);
       }
 
   pub keys-room : Room (keys_in a) n

@@ -60,3 +60,4 @@ pub record Enough (h : Header) (a : Arrays) (n : ℕ) : Type 0 where
   pub alive : n ≤ length a.alive
   pub codes2 : h.residual ≡ true → n ≤ length a.codes2 / block_size h
   pub scales2 : h.residual ≡ true → n ≤ length a.scales2
+  pub years : n ≤ length a.years

@@ -1,10 +1,11 @@
-// The versions of the byte form: what each has, how long its blocks are, and which version an index is written as. No other crate compares version numbers.
+// The versions of the byte form: what each has, how long its blocks are, and which version an index is written as. No other crate compares these version numbers;
+// the crate `conversion` tests for version 1, which is no longer read.
 #![tactic(auto)]
 
-ghost use Rattle.std.specs.Prelude.{◌≡◌, List};
+ghost use Rattle.std.specs.Prelude.{◌≡◌};
 ghost use Rattle.index.specs.State.{header_of};
-ghost use Rattle.index.specs.Form.{form_of, stages_at, stage_size, table_size};
-ghost use Rattle.index.specs.File.{Entry, version_of};
+ghost use Rattle.index.specs.Form.{form_of, stages_at, stage_size, table_size, years_size};
+ghost use Rattle.index.specs.File.{version_with};
 
 use index::{Form, Index};
 
@@ -16,24 +17,25 @@ pub fn form_of(version: u16) -> Form
     ensures { result ≡ form_of version }
 {
     Form {
-        known: (257..=261).contains(&version),
-        width: version == 261,
-        second: version == 260,
+        known: (257..=264).contains(&version),
+        width: version == 261 || version == 264,
+        second: version == 260 || version == 263,
         keys: 259 <= version,
         working: 258 <= version,
+        years: 262 <= version,
     }
 }
 
-// The version that an index is written as, whatever its slots hold.
-#[tactic(auto, unfolding(index::specs::File::version_of))]
-pub fn version_of(index: Index) -> u16
-    ensures { (es : List Entry) → result ≡ version_of (header_of index) es }
+// The version that an index is written as; `dated` says whether the year of some live slot is not 1.
+pub fn version_with(index: Index, dated: bool) -> u16
+    ensures { result ≡ version_with (header_of index) dated }
 {
-    match (index.residual, index.bits) {
+    let plain = match (index.residual, index.bits) {
         (true, _) => 260,
         (_, 4) => 259,
         _ => 261,
-    }
+    };
+    plain + 3 * u16::from(dated)
 }
 
 // ---- lengths. The types of the counts are narrow enough that no length can overflow.
@@ -57,4 +59,11 @@ pub fn table_size(form: Form, k: u32) -> usize
     ensures { result ≡ table_size form k }
 {
     if form.keys { 4 + k as usize * 12 } else { 0 }
+}
+
+// How many bytes the years of n slots take.
+pub fn years_size(form: Form, n: u32) -> usize
+    ensures { result ≡ years_size form n }
+{
+    if form.years { n as usize * 2 } else { 0 }
 }

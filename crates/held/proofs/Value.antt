@@ -16,7 +16,7 @@ use Rattle.lists.proofs.Keep.{length-keep, count_map, count_same, each_keep, eac
 use Rattle.lists.proofs.Front.{map-tab, each-tab, tab-each}
 use Rattle.index.specs.declared.Index.{Index}
 use Rattle.index.specs.Arrays.{Arrays}
-use Rattle.index.specs.State.{Mark, dead, unkeyed, keyed, Slot, is_live, header_of, mark_of, slot_at, state_of, new_slot}
+use Rattle.index.specs.State.{Mark, dead, unkeyed, keyed, Slot, is_live, header_of, mark_of, slot_at, state_of, with_mark}
 use Rattle.index.specs.Fit.{row_at, fit}
 use Rattle.index.specs.Step.{live_from, number_where, holds, holds_at, held_by, is_held, slot_holding, key_of_mark, key_answer, position_of}
 use Rattle.index.specs.Sound.{marks}
@@ -121,7 +121,7 @@ module _ (x : Index) (a : Arrays) (e : fit x a ≡ true) where
     pub position_in : (j : ℕ) → position_of j (get_elem? (state_of x a).slots i) ≡ cond (slot_has a.keys a.keyed j i) (some (get_or a.held i 0)) none
     position_in j =
         ap (position_of j) slot-in
-        ∙ mark-part (λ m. position_of j (some (new_slot m (slot_at (header_of x) a i).code))) none (λ u. refl) (λ u. refl)
+        ∙ mark-part (λ m. position_of j (some (with_mark (slot_at (header_of x) a i) m))) none (λ u. refl) (λ u. refl)
         ∙ cond_both (get_or a.keyed i false) (eqb (get_or a.keys i 0) j) (some (get_or a.held i 0)) none
 
   -- a slot past those in use

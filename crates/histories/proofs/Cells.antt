@@ -1,17 +1,17 @@
 -- The live slots with their arrivals, under each kind of change of the slots.
 use mathlib.Core.Path.{◌≡◌, refl, sym, ap, ◌∙◌}
-use mathlib.Core.Bool.{Bool, true, false, cond}
+use mathlib.Core.Bool.{Bool, true, false, cond, ◌&&◌, ◌||◌}
 use mathlib.Core.List.{List, [], ◌∷◌, ◌++◌, map}
 use Prim.Native.Nat.{ℕ, suc, ◌+◌, ◌<◌}
 use native.Mathlib.Nat.{add-suc, suc-add, add-zero, zero-add}
 use native.Mathlib.Omega.{arith}
 use lib.ListN.{length, get_or}
 use Rattle.lists.specs.Lists.{tab}
-use Rattle.lists.specs.Keep.{keep, Each}
+use Rattle.lists.specs.Keep.{keep, Each, any}
 use Rattle.lists.proofs.Laws.{length-tab, get_or-tab}
 use Rattle.lists.proofs.Keep.{each_weaken}
-use Rattle.index.specs.State.{Slot, live}
-use Rattle.index.specs.Step.{Cell, live_from}
+use Rattle.index.specs.State.{Mark, dead, unkeyed, keyed, Slot, with_mark, live}
+use Rattle.index.specs.Step.{Cell, live_from, must_stay, any_must_stay}
 use Rattle.index.proofs.Questions.{rename}
 use Rattle.histories.specs.Histories.{live_by}
 use Rattle.histories.proofs.Arrivals.{Sorted}
@@ -24,6 +24,10 @@ live_cell c = live c.slot
 
 abbrev pub cell_ids : List Cell → List ℕ
 cell_ids cs = map (λ c. c.number) cs
+
+-- one whose mark passes, and whose year must stay
+abbrev pub cell_stays : (present : ℕ) → (Mark → Bool) → Cell → Bool
+cell_stays present p c = p c.slot.mark && must_stay present c.slot.year
 
 -- a live slot's number, read through the arrivals
 pub cells-read : (f : ℕ → ℕ) (i : ℕ) (ws : List ℕ) (ss : List Slot) → length ws ≡ length ss → ((j : ℕ) → f (i + j) ≡ get_or ws j 0) →
@@ -111,6 +115,21 @@ cells-slots (a ∷ ws) (s ∷ ss) e = go (live s) (cells-slots ws ss (omega arit
 pub cells-again : (cs : List Cell) → Each (λ c. live_cell c ≡ true) cs → live_by (cell_ids cs) (map (λ c. c.slot) cs) ≡ cs
 cells-again [] h = refl
 cells-again (c ∷ cs) h = rw h.0 (ap (λ (r : List Cell). c ∷ r) (cells-again cs h.1))
+
+-- a dead slot's year counts for nothing
+pub stays-live : (present : ℕ) (p : Mark → Bool) → ((u : ℕ) → p (dead u) ≡ false) → (ws : List ℕ) (ss : List Slot) → length ws ≡ length ss →
+    any_must_stay p present ss ≡ any (cell_stays present p) (live_by ws ss)
+unfolding any_must_stay any
+stays-live present p d [] [] e = refl
+stays-live present p d [] (s ∷ ss) e = absurd (omega arith)
+stays-live present p d (a ∷ ws) [] e = absurd (omega arith)
+stays-live present p d (a ∷ ws) (s ∷ ss) e = go s.mark (stays-live present p d ws ss (omega arith))
+  where
+    go : (m : Mark) → any_must_stay p present ss ≡ any (cell_stays present p) (live_by ws ss) →
+        any_must_stay p present (with_mark s m ∷ ss) ≡ any (cell_stays present p) (live_by (a ∷ ws) (with_mark s m ∷ ss))
+    go (dead u) ih = rw (d u) ih
+    go (unkeyed u) ih = ap (λ (b : Bool). (p (unkeyed u) && must_stay present s.year) || b) ih
+    go (keyed k q) ih = ap (λ (b : Bool). (p (keyed k q) && must_stay present s.year) || b) ih
 
 -- what holds of each arrival of a list holds of the live ones
 pub each-ids : (P : ℕ → Type 0) (ws : List ℕ) (ss : List Slot) → Each P ws → Each P (cell_ids (live_by ws ss))

@@ -13,7 +13,7 @@ use Rattle.index.specs.State.{Slot, record_of, live}
 use Rattle.index.specs.Step.{Answer}
 use Rattle.index.specs.History.{HistoryOp}
 use Rattle.index.proofs.Fits.{fitting, record-self}
-use Rattle.histories.specs.Histories.{History, Told, says, Run, Moment, after, accepts, accepted, answer, struck, others, Start, begin, Legal, SameAnswers, Faithful, AlwaysFaithful, AlwaysRead, AlwaysAnswersKeys, AlwaysAnswersAdds, AlwaysAnswersScores, AlwaysFiles, LeaveAlike, Paired, SameLeft, PartsFull, PartAtRoomOnly, is_append, slots_of, live_by}
+use Rattle.histories.specs.Histories.{History, Told, says, Run, Moment, after, accepts, accepted, answer, struck, others, Start, begin, Legal, SameAnswers, Faithful, AlwaysFaithful, AlwaysRead, AlwaysAnswersKeys, AlwaysAnswersAdds, AlwaysAnswersScores, AlwaysFiles, AlwaysKeepsYears, LeaveAlike, Paired, SameLeft, PartsFull, PartAtRoomOnly, is_append, slots_of, live_by}
 use Rattle.histories.specs.Houses.{FiledAlike}
 use Rattle.histories.proofs.Cells.{cells-slots}
 use Rattle.histories.proofs.Held.{cells-length}
@@ -26,6 +26,7 @@ use Rattle.histories.proofs.Keys.{good-keys}
 use Rattle.histories.proofs.Adds.{good-adds}
 use Rattle.histories.proofs.Scores.{good-scores}
 use Rattle.histories.proofs.Left.{answered-alike}
+use Rattle.histories.proofs.Years.{keeps-years}
 
 -- ---- two calls that the machine takes in the same state
 
@@ -157,3 +158,6 @@ always-answers-adds x a s h = good-adds (after (begin x a) h) (after-good (begin
 
 pub always-answers-scores : AlwaysAnswersScores
 always-answers-scores x a s h = good-scores (after (begin x a) h) (after-good (begin x a) (start-good x a s) h)
+
+pub always-keeps-years : AlwaysKeepsYears
+always-keeps-years x a s h = keeps-years (after (begin x a) h) (after-good (begin x a) (start-good x a s) h)

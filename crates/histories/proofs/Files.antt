@@ -15,9 +15,9 @@ use Rattle.histories.proofs.Tracks.{none_seen}
 use Rattle.histories.proofs.Machine.{cells_in, answer_of}
 use Rattle.histories.proofs.Runs.{Good, answer-machine, accepts-machine}
 
-entries : (seen : ℕ → ℕ) (ls : List LiveArrival) → map entry_of (cells_of seen ls) ≡ map (λ l. record { code = l.code; key = l.key }) ls
+entries : (seen : ℕ → ℕ) (ls : List LiveArrival) → map entry_of (cells_of seen ls) ≡ map (λ l. record { code = l.code; key = l.key; year = l.year }) ls
 entries seen [] = refl
-entries seen (l ∷ ls) = ap₂ (λ (o : Option ℕ) (es : List Entry). record { code = l.code; key = o } ∷ es) (go l.key) (entries (seen_after seen l.key) ls)
+entries seen (l ∷ ls) = ap₂ (λ (o : Option ℕ) (es : List Entry). record { code = l.code; key = o; year = l.year } ∷ es) (go l.key) (entries (seen_after seen l.key) ls)
   where
     go : (o : Option ℕ) → key_of_mark (mark_for seen o) ≡ o
     go none = refl

@@ -88,28 +88,29 @@ module _ (s : State) (o : Outcome) (yes : accepted o.answer ≡ true) where
 
 -- of a value s, with room for r slots or for q
 module _ (r q : ℕ) (s : State) where
-  room-append : (m : Mark) (v : Item) → accepted (appended r s m v).answer ≡ accepted (appended q s m v).answer → appended r s m v ≡ appended q s m v
+  room-append : (m : Mark) (v : Item) (y : ℕ) → accepted (appended r s m v y).answer ≡ accepted (appended q s m v y).answer → appended r s m v y ≡ appended q s m v y
   unfolding appended
-  room-append m v e =
+  room-append m v y e =
       let n : ℕ = length s.slots in
-      room-tested s (record { state = with_slots s false (s.slots ++ (new_slot m (encoded s.header no_spare v) ∷ [])); answer = slot n }) refl
+      room-tested s (record { state = with_slots s false (s.slots ++ (new_slot m (encoded s.header no_spare v) y ∷ [])); answer = slot n }) refl
       (fault s.header v.vector) (leb r n) (leb q n) e
 
-  room-keyed : (j : ℕ) (v : Item) (o : Option ℕ) → slot_holding j 0 (live_from 0 s.slots) ≡ o →
-      accepted (step r s (add_keyed j v)).answer ≡ accepted (step q s (add_keyed j v)).answer → step r s (add_keyed j v) ≡ step q s (add_keyed j v)
+  room-keyed : (j : ℕ) (v : Item) (y present : ℕ) (o : Option ℕ) → slot_holding j 0 (live_from 0 s.slots) ≡ o →
+      accepted (step r s (add_keyed j v y present)).answer ≡ accepted (step q s (add_keyed j v y present)).answer →
+      step r s (add_keyed j v y present) ≡ step q s (add_keyed j v y present)
   unfolding step
-  room-keyed j v none h e = rw (h, step) (room-append (keyed j 0) v (rw (h, step) at e))
-  room-keyed j v (some i) h e = rw (h, step)
+  room-keyed j v y present none h e = rw (h, step) (room-append (keyed j 0) v y (rw (h, step) at e))
+  room-keyed j v y present (some i) h e = rw (h, step)
 
   room-step : (op : Op) → accepted (step r s op).answer ≡ accepted (step q s op).answer → step r s op ≡ step q s op
   unfolding step
   room-step (set_bits w) e = refl
-  room-step (add v) e = room-append (unkeyed 0) v e
-  room-step (add_keyed j v) e = room-keyed j v (slot_holding j 0 (live_from 0 s.slots)) refl e
-  room-step (add_multi j v) e = room-append (keyed j (held_by j (live_from 0 s.slots))) v e
+  room-step (add v y) e = room-append (unkeyed 0) v y e
+  room-step (add_keyed j v y present) e = room-keyed j v y present (slot_holding j 0 (live_from 0 s.slots)) refl e
+  room-step (add_multi j v y) e = room-append (keyed j (held_by j (live_from 0 s.slots))) v y e
   room-step (relabel j k) e = refl
-  room-step (remove j) e = refl
-  room-step (remove_at j i) e = refl
+  room-step (remove j present) e = refl
+  room-step (remove_at j i present) e = refl
   room-step (key_of i) e = refl
   room-step (contains j) e = refl
   room-step (slot_of j i) e = refl

@@ -1,57 +1,27 @@
 -- Key questions, relabelling and removal answer what the calls tell of the live arrivals.
-use mathlib.Core.Path.{◌≡◌, refl, sym, ap, ap₂, ◌∙◌}
-use mathlib.Core.Bool.{Bool, true, false, not, cond, ◌&&◌, ◌||◌}
+use mathlib.Core.Path.{◌≡◌, refl, ap, ap₂, ◌∙◌}
+use mathlib.Core.Bool.{Bool, true, not, ◌&&◌, ◌||◌}
 use mathlib.Core.List.{List, [], ◌∷◌}
 use mathlib.Core.Option.{Option, none, some}
-use Prim.Native.Nat.{ℕ, zero, suc, ◌+◌, ◌<◌}
-use native.Mathlib.Nat.{zero-add}
+use Prim.Native.Nat.{ℕ, ◌+◌, ◌<◌}
 use native.Mathlib.Omega.{arith}
 use lib.ListN.{get_elem?}
 use lib.Dec.{eqb}
-use borrow.Author.Tests.{eqb-true, eqb-false, eq-eqb, ne_eqb}
-use Rattle.lists.specs.Keep.{keep, Each}
+use borrow.Author.Tests.{eq-eqb, ne_eqb}
+use Rattle.lists.specs.Keep.{Each}
 use Rattle.lists.proofs.Keep.{each-mem, each_weaken, each_both}
 use Rattle.lists.proofs.Members.{mem-map, any-mem}
 use Rattle.index.specs.State.{Mark, Slot, new_slot}
-use Rattle.index.specs.Step.{flag, maybe_slot, maybe_key, Cell, key_of_mark, holds_at, number_where, slot_holding, key_answer, one_more}
+use Rattle.index.specs.Step.{flag, maybe_slot, maybe_key, Cell, key_of_mark, slot_holding, key_answer}
 use Rattle.index.specs.History.{relabel, remove, key_of, contains, slot_of}
-use Rattle.histories.specs.Histories.{LiveArrival, is_key, carries, ids, lives, holders, Run, moment, answer, AnswersKeys}
+use Rattle.histories.specs.Histories.{LiveArrival, ids, lives, holders, Run, moment, answer, AnswersKeys}
 use Rattle.histories.proofs.Arrivals.{Sorted}
-use Rattle.histories.proofs.Held.{mark_for, seen_after, cells_of, more-other, more_same, held-taken}
+use Rattle.histories.proofs.Held.{mark_for, seen_after, cells_of, held-taken, holding}
 use Rattle.histories.proofs.Tracks.{none_seen, ids-sorted, find}
 use Rattle.histories.proofs.Machine.{answer_of}
 use Rattle.histories.proofs.Runs.{Good, answer-machine}
 
--- ---- the i-th arrival of a key, of which `seen` came before, holds the position i past these
-
-holding : (j i : ℕ) (seen : ℕ → ℕ) (ls : List LiveArrival) → slot_holding j (i + seen j) (cells_of seen ls) ≡ get_elem? (holders j ls) i
-unfolding number_where
-holding j i seen [] = refl
-holding j i seen (l ∷ ls) = go l.key (λ n next. holding j n next ls)
-  where
-    more : ℕ → (ℕ → ℕ) → Option ℕ
-    more n next = slot_holding j (n + next j) (cells_of next ls)
-
-    -- where its key is k
-    at : (k : ℕ) (b : Bool) → eqb k j ≡ b → ((n : ℕ) (next : ℕ → ℕ) → more n next ≡ get_elem? (holders j ls) n) → (n : ℕ) →
-        cond (b && eqb (seen k) (n + seen j)) (some l.arrival) (slot_holding j (n + seen j) (cells_of (one_more k seen) ls)) ≡
-        get_elem? (ids (cond b (l ∷ keep (carries j) ls) (keep (carries j) ls))) n
-    at k true e ih zero = rw (eq-eqb (seen k) (0 + seen j) (ap seen (eqb-true k j e) ∙ sym (zero-add (seen j))))
-    at k true e ih (suc n) =
-        let kj : k ≡ j = eqb-true k j e in
-        let far : eqb (seen k) (suc n + seen j) ≡ false = ne_eqb (seen k) (suc n + seen j) (λ q. absurd (omega (arith, q, ap seen kj))) in
-        rw far
-        (ap (λ (m : ℕ). slot_holding j m (cells_of (one_more k seen) ls))
-        (let z : one_more k seen j ≡ suc (seen j) = ap (λ (i : ℕ). one_more i seen j) kj ∙ more_same j seen in let y : suc n + seen j ≡ n + one_more k seen j = omega (arith, z) in y)
-        ∙ ih n (one_more k seen))
-    at k false e ih n =
-        ap (λ (m : ℕ). slot_holding j (n + m) (cells_of (one_more k seen) ls)) (sym (more-other k j seen (eqb-false k j e))) ∙ ih n (one_more k seen)
-
-    go : (o : Option ℕ) → ((n : ℕ) (next : ℕ → ℕ) → more n next ≡ get_elem? (holders j ls) n) →
-        cond (holds_at j (i + seen j) (mark_for seen o)) (some l.arrival) (slot_holding j (i + seen j) (cells_of (seen_after seen o) ls)) ≡
-        get_elem? (ids (cond (is_key j o) (l ∷ keep (carries j) ls) (keep (carries j) ls))) i
-    go none ih = ih i seen
-    go (some k) ih = at k (eqb k j) refl ih i
+-- ---- the i-th arrival of a key holds the position i
 
 pub holders-hold : (j i : ℕ) (ls : List LiveArrival) → slot_holding j i (cells_of none_seen ls) ≡ get_elem? (holders j ls) i
 holders-hold j i ls = let z : i ≡ i + none_seen j = omega arith in ap (λ (n : ℕ). slot_holding j n (cells_of none_seen ls)) z ∙ holding j i none_seen ls
@@ -62,9 +32,9 @@ mark-key : (seen : ℕ → ℕ) (o : Option ℕ) → key_of_mark (mark_for seen 
 mark-key seen none = refl
 mark-key seen (some k) = refl
 
--- the slot that an arrival names has its key and its code
+-- the slot that an arrival names has its key, its code and its year
 abbrev pub Named : (ls : List Cell) → LiveArrival → Type 0
-Named cs l = (m : Mark) × (find l.arrival cs ≡ some (new_slot m l.code)) × (key_of_mark m ≡ l.key)
+Named cs l = (m : Mark) × (find l.arrival cs ≡ some (new_slot m l.code l.year)) × (key_of_mark m ≡ l.key)
 
 pub find-own : (seen : ℕ → ℕ) (ls : List LiveArrival) → Sorted (ids ls) → Each (Named (cells_of seen ls)) ls
 find-own seen [] s = tt
@@ -93,5 +63,5 @@ good-keys r g =
       held = λ j i. answer-machine r g (slot_of j i) refl ∙ ap (λ (o : Option ℕ). some (maybe_slot o)) (holders-hold j i ls);
       relabelled = λ j k. answer-machine r g (relabel j k) refl ∙
           ap₂ (λ (b c : Bool). some (flag (b && (eqb j k || not c)))) (held-taken j none_seen ls) (held-taken k none_seen ls);
-      removed = λ j. answer-machine r g (remove j) refl ∙ ap (λ (b : Bool). some (flag b)) (held-taken j none_seen ls);
+      removed = λ j present. answer-machine r g (remove j present) refl;
     }

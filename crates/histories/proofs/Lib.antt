@@ -15,5 +15,6 @@ pub mod Searches
 pub mod Scores
 pub mod Files
 pub mod Left
+pub mod Years
 pub mod Claims
 pub mod Houses

@@ -7,10 +7,10 @@ use Prim.Native.Nat.{ℕ, zero, suc}
 use lib.ListN.{length}
 use lib.Dec.{T, ltb, eqb}
 use Rattle.encode.specs.Coded.{fault}
-use Rattle.index.specs.Step.{Item, Answer, refused, done, flag, slot, maybe_slot, maybe_key, hits, key_hits, size, bytes, first_of, when, unless, Cell, is_held, slot_holding, by_slot, by_key, searched, score_answer, key_answer, file_bytes}
+use Rattle.index.specs.Step.{Item, Answer, refused, done, flag, slot, maybe_slot, maybe_key, hits, key_hits, size, bytes, first_of, when, unless, must_stay, Cell, is_held, slot_holding, by_slot, by_key, searched, score_answer, key_answer, file_bytes}
 use Rattle.index.specs.History.{HistoryOp, add, add_keyed, add_multi, relabel, remove, compact, score, search, search_keyed, key_of, contains, slot_of, file_length, write}
-use Rattle.histories.specs.Histories.{Told, taken, is_append, accepted, says}
-use Rattle.histories.proofs.Held.{cells_of, found, first_found}
+use Rattle.histories.specs.Histories.{LiveArrival, Told, taken, is_append, first_with, one_stays, accepted, says}
+use Rattle.histories.proofs.Held.{cells_of, found, first-taken}
 use Rattle.histories.proofs.Tracks.{none_seen, find}
 
 abbrev pub cells_in : Told → List Cell
@@ -20,16 +20,16 @@ abbrev pub appending : (full : Bool) → Told → Item → Answer
 appending full t v = unless (first_of (fault t.header v.vector ∷ when full 8 ∷ [])) (slot t.next)
 
 -- by the first live arrival of the key
-abbrev pub appending_or_over : (full : Bool) → Told → Item → Option ℕ → Answer
-appending_or_over full t v none = appending full t v
-appending_or_over full t v (some a) = unless (fault t.header v.vector) (slot a)
+abbrev pub appending_or_over : (full : Bool) → Told → Item → (present : ℕ) → Option LiveArrival → Answer
+appending_or_over full t v present none = appending full t v
+appending_or_over full t v present (some l) = unless (first_of (fault t.header v.vector ∷ when (must_stay present l.year) 21 ∷ [])) (slot l.arrival)
 
 unfoldable pub answer_of : (full : Bool) → Told → HistoryOp → Answer
-answer_of full t (add v) = appending full t v
-answer_of full t (add_keyed j v) = appending_or_over full t v (slot_holding j 0 (cells_in t))
-answer_of full t (add_multi j v) = appending full t v
+answer_of full t (add v y) = appending full t v
+answer_of full t (add_keyed j v y present) = appending_or_over full t v present (first_with j t.living)
+answer_of full t (add_multi j v y) = appending full t v
 answer_of full t (relabel j k) = flag (is_held j (cells_in t) && (eqb j k || not (is_held k (cells_in t))))
-answer_of full t (remove j) = flag (is_held j (cells_in t))
+answer_of full t (remove j present) = cond (one_stays j present t.living) (refused 21) (flag (taken j t.living))
 answer_of full t compact = done
 answer_of full t (score a q) = score_answer t.header q (find a (cells_in t))
 answer_of full t (search q k places) = searched t.header (cells_in t) q k places (λ xs. hits (map by_slot xs))
@@ -68,16 +68,16 @@ appending-parts full empty t v = go (fault t.header v.vector) full empty
 
 pub answers-part : (full empty : Bool) (t : Told) (op : HistoryOp) → PartFull (is_append op t.living) (answer_of full t op) (answer_of empty t op)
 unfolding answer_of
-answers-part full empty t (add v) = appending-parts full empty t v
-answers-part full empty t (add_keyed j v) = go (slot_holding j 0 (cells_in t)) (first_found j none_seen refl t.living)
+answers-part full empty t (add v y) = appending-parts full empty t v
+answers-part full empty t (add_keyed j v y present) = go (first_with j t.living) (first-taken j t.living)
   where
-    go : (o : Option ℕ) → found o ≡ taken j t.living →
-        PartFull (not (taken j t.living)) (appending_or_over full t v o) (appending_or_over empty t v o)
+    go : (o : Option LiveArrival) → found o ≡ taken j t.living →
+        PartFull (not (taken j t.living)) (appending_or_over full t v present o) (appending_or_over empty t v present o)
     go none e = rw (← e) (appending-parts full empty t v)
-    go (some a) e = part_none (not (taken j t.living)) (unless (fault t.header v.vector) (slot a))
-answers-part full empty t (add_multi j v) = appending-parts full empty t v
+    go (some l) e = part_none (not (taken j t.living)) (appending_or_over full t v present (some l))
+answers-part full empty t (add_multi j v y) = appending-parts full empty t v
 answers-part full empty t (relabel j k) = part_none false _
-answers-part full empty t (remove j) = part_none false _
+answers-part full empty t (remove j present) = part_none false _
 answers-part full empty t compact = part_none false _
 answers-part full empty t (score a q) = part_none false _
 answers-part full empty t (search q k places) = part_none false _

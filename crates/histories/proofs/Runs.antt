@@ -102,11 +102,11 @@ module _ (r : Run) (g : Good r) (op : HistoryOp) where
 -- a compaction tells nothing
 compact-says : (op : HistoryOp) (t : Told) → is_compact op ≡ true → says op t ≡ t
 unfolding says
-compact-says (add v) t e = absurd (subst T (sym e) tt)
-compact-says (add_keyed j v) t e = absurd (subst T (sym e) tt)
-compact-says (add_multi j v) t e = absurd (subst T (sym e) tt)
+compact-says (add v y) t e = absurd (subst T (sym e) tt)
+compact-says (add_keyed j v y present) t e = absurd (subst T (sym e) tt)
+compact-says (add_multi j v y) t e = absurd (subst T (sym e) tt)
 compact-says (relabel j k) t e = absurd (subst T (sym e) tt)
-compact-says (remove j) t e = absurd (subst T (sym e) tt)
+compact-says (remove j present) t e = absurd (subst T (sym e) tt)
 compact-says compact t e = refl
 compact-says (score a q) t e = refl
 compact-says (search q k places) t e = refl

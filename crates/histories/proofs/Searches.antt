@@ -120,7 +120,7 @@ module _ (r : Run) (g : Good r) (q : Query) (k places : ℕ) where
         let own = each_of (Named (cells_in r.told)) m (find-own none_seen r.told.living (ids-sorted g.tracks)) in
         answer-machine r g (score l.arrival q) (each_of (λ (x : LiveArrival). lives r.told.living x.arrival ≡ true) m (all_live r.told.living)) ∙
         ap (λ (o : Option Slot). some (score_answer head q o)) own.1 ∙
-        ap some (scored-as head q found query-passed (new_slot own.0 l.code)
+        ap some (scored-as head q found query-passed (new_slot own.0 l.code l.year)
         (each_of (λ (x : LiveArrival). is_nan (score_of head q x.code) ≡ false) m (map_each (λ x. is_nan x.1 ≡ false)
         (λ (x : LiveArrival). (x.arrival, score_of head q x.code)) r.told.living no_nan)))
 

@@ -22,7 +22,7 @@ use Rattle.index.specs.Call.{Result, call}
 use Rattle.index.specs.Answers.{result_of}
 use Rattle.index.specs.Make.{Begun, begun, empty, begun_unless, make_refusal, make}
 use Rattle.index.specs.Sound.{Ranged, Sound}
-use Rattle.index.specs.Read.{count_in, key_from, entries_in, slot_in, slots_in, state_in, read_into}
+use Rattle.index.specs.Read.{count_in, key_from, entries_in, year_in, slot_in, slots_in, state_in, read_into}
 use Rattle.index.proofs.Fits.{sound-fit}
 use Rattle.lists.proofs.Tests.{and_left, and_right}
 use Rattle.index.proofs.Kept.{first-none, when-none, fit-kept, call-state}
@@ -154,9 +154,9 @@ start-good x a (as_read file b e) =
 -- ---- what a read start tells is what the file says
 
 abbrev arriving : ℕ → Slot → LiveArrival
-arriving a s = record { arrival = a; key = key_of_mark s.mark; code = s.code }
+arriving a s = record { arrival = a; key = key_of_mark s.mark; code = s.code; year = s.year }
 
--- rising positions change neither keys nor codes
+-- rising positions change no key, code or year
 risen-arrive : (seen : ℕ → ℕ) (ws : List ℕ) (ss : List Slot) → length ws ≡ length ss → Each (λ s. live s ≡ true) ss →
     map live_arrival (live_by ws (rising seen ss)) ≡ zip_with arriving ws ss
 unfolding rising
@@ -177,7 +177,7 @@ slots-arrive file =
     ap (map live_arrival) (sym (cells-in-order n (slots_in file) (read_length file))) ∙
     risen-arrive none_seen (below n) (loose file) (length-tab (λ i. i) n ∙ sym (length-tab (slot_in file) n)) (loose-live file) ∙
     zip-tab arriving (λ i. i) (slot_in file) n ∙
-    tab-ext _ _ n (λ i l. λ j. record { arrival = i; key = mark-key (key_from (entries_in file) i) j; code = (slot_in file i).code })
+    tab-ext _ _ n (λ i l. λ j. record { arrival = i; key = mark-key (key_from (entries_in file) i) j; code = (slot_in file i).code; year = year_in file i })
 
 pub told-as-filed : ToldAsFiled
 unfolding begin state_of state_in

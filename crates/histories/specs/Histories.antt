@@ -4,13 +4,13 @@
 --   history       a list, of any length, of calls (`HistoryOp` of the index), refused ones included. "Each call gets the record and the index's arrays
 --                 as the one before left them"; "Each call brings all else that it takes".
 --   arrival       "a read index's slots arrive as 0, 1, 2 in slot order; a new index has none; each accepted append is the next, an overwrite none".
---   live arrival  "live from its arrival until a whole-key removal takes it". Which these are, with key and code, is said by the start (`begin`: none, or
---                 what was read) and from then on by the calls alone: `Told` and `says` below look at no array. That the arrays agree is law `Faithful`.
+--   live arrival  "live from its arrival until a whole-key removal takes it". Which these are, with key, code and year, is said by the start (`begin`: none,
+--                 or what was read) and from then on by the calls alone: `Told` and `says` below look at no array. That the arrays agree is law `Faithful`.
 --   number        "how many lower arrivals were not already dead at the last compaction, all of them if there was none": `number_now`.
 --   legal call    it "names live slots only, each by arrival": `names_live`. No relabelling is ruled out: the mission's proviso always holds (`Faithful`,
 --                 field `held`).
 -- The claims are `SameAnswers` and `SearchesSound`; laws beside them stand at the end. docs/HISTORIES.md leads through this file.
-use Rattle.std.specs.Prelude.{◌≡◌, Bool, true, false, not, cond, ◌&&◌, ◌||◌, ℕ, suc, min, max, ◌≤◌, length, drop, ltb, eqb, Float}
+use Rattle.std.specs.Prelude.{◌≡◌, Bool, true, false, not, cond, ◌&&◌, ◌||◌, ℕ, suc, min, max, ◌<◌, ◌≤◌, length, drop, ltb, eqb, Float}
 use mathlib.Core.List.{List, [], ◌∷◌, ◌++◌, map, Memᴰ}
 use Rattle.std.proofs.Math.Option
 use Rattle.std.proofs.Math.Option.{Option, none, some}
@@ -20,7 +20,7 @@ use Rattle.lists.specs.Keep.{keep, count, Each, any}
 use Rattle.choose.specs.Falling.{Falls, RisesBy}
 use Rattle.score.specs.Order.{order_number}
 use Rattle.encode.specs.declared.Header.{Header}
-use Rattle.encode.specs.Coded.{Code, no_spare, spare_of}
+use Rattle.encode.specs.Coded.{Code, fault, no_spare, spare_of}
 use Rattle.index.specs.declared.Index.{Index}
 use Rattle.index.specs.Verdict.{Verdict, granted}
 use Rattle.index.specs.Arrays.{Arrays}
@@ -29,13 +29,14 @@ use Rattle.index.specs.Codec.{encoded, score_of}
 use Rattle.index.specs.Fit.{none_from, fit}
 use Rattle.index.specs.File.{file_of}
 pub use Rattle.index.specs.Step.{accepted}
-use Rattle.index.specs.Step.{Item, Query, Answer, refused, done, flag, slot, maybe_slot, maybe_key, score_is, hits, key_hits, size, bytes, Cell, live_from, key_of_mark, Hit, by_slot, by_key, rising, set_bits}
+use Rattle.index.specs.Step.{Item, Query, Answer, refused, done, flag, slot, maybe_slot, maybe_key, score_is, hits, key_hits, size, bytes, first_of, when, unless, Cell, live_from, must_stay, key_of_mark, Hit, by_slot, by_key, rising, set_bits}
 use Rattle.index.specs.Call.{Result, call}
 use Rattle.index.specs.Ties.{alike}
 use Rattle.index.specs.OneTrait.{one_trait, trait_score_of}
 use Rattle.index.specs.Answers.{result_of, how_many, first_entries, found, found_keyed, wrote, LaterKept}
 use Rattle.index.specs.Make.{new_header, begun, make}
-use Rattle.index.specs.Read.{count_in, header_in, key_from, entries_in, slot_in, read_into}
+use Rattle.index.specs.Read.{count_in, header_in, key_from, entries_in, year_in, slot_in, read_into}
+use Rattle.index.specs.Years.{present_told}
 use Rattle.index.specs.History.{HistoryOp, add, add_keyed, add_multi, relabel, remove, compact, score, search, search_keyed, key_of, contains, slot_of, file_length, write, op_at}
 
 abbrev pub History : Type 0
@@ -43,11 +44,12 @@ History = List HistoryOp
 
 -- ---- what the calls alone say
 
--- a live arrival, with the key and the code that the calls gave it
+-- a live arrival, with the key, the code and the year that the calls gave it
 pub record LiveArrival : Type 0 where
   pub arrival : ℕ
   pub key : Option ℕ
   pub code : Code
+  pub year : ℕ
 
 -- the header of the start, the next arrival, and the live arrivals in order of arrival
 pub record Told : Type 0 where
@@ -69,33 +71,36 @@ carries j l = is_key j l.key
 abbrev pub taken : (key : ℕ) → List LiveArrival → Bool
 taken j ls = any (carries j) ls
 
--- an accepted append: "each accepted append is the next"; "Spare bits are 0 after an append"
-abbrev pub arrived : Told → (key : Option ℕ) → Item → Told
-arrived t key v =
-    record { header = t.header; next = suc t.next; living = t.living ++ (record { arrival = t.next; key = key; code = encoded t.header no_spare v } ∷ []) }
+-- the arrival that an append adds: "each accepted append is the next"; "Spare bits are 0 after an append"; 02, Req 06: "Adding states a year"
+abbrev pub newcomer : Told → (key : Option ℕ) → Item → (year : ℕ) → LiveArrival
+newcomer t key v y = record { arrival = t.next; key = key; code = encoded t.header no_spare v; year = y }
 
--- an overwrite goes to the lowest live arrival of the key and "keeps" its spare bits
-abbrev pub coded_anew : Header → Item → LiveArrival → LiveArrival
-coded_anew h v l = record { arrival = l.arrival; key = l.key; code = encoded h (spare_of h l.code) v }
+-- an accepted append
+abbrev pub arrived : Told → (key : Option ℕ) → Item → (year : ℕ) → Told
+arrived t key v y = record { header = t.header; next = suc t.next; living = t.living ++ (newcomer t key v y ∷ []) }
 
-abbrev pub first_overwritten : Header → (key : ℕ) → Item → List LiveArrival → List LiveArrival
-first_overwritten h j v [] = []
-first_overwritten h j v (l ∷ ls) = cond (carries j l) (coded_anew h v l ∷ ls) (l ∷ first_overwritten h j v ls)
+-- an overwrite goes to the lowest live arrival of the key and "keeps" its spare bits; 02, Req 06: "an overwrite sets the new one", the year
+abbrev pub coded_anew : Header → Item → (year : ℕ) → LiveArrival → LiveArrival
+coded_anew h v y l = record { arrival = l.arrival; key = l.key; code = encoded h (spare_of h l.code) v; year = y }
+
+abbrev pub first_overwritten : Header → (key : ℕ) → Item → (year : ℕ) → List LiveArrival → List LiveArrival
+first_overwritten h j v y [] = []
+first_overwritten h j v y (l ∷ ls) = cond (carries j l) (coded_anew h v y l ∷ ls) (l ∷ first_overwritten h j v y ls)
 
 -- relabelling an old key that is held, to itself or to a key that is not held
 abbrev pub renames : (old new : ℕ) → List LiveArrival → Bool
 renames j k ls = taken j ls && (eqb j k || not (taken k ls))
 
 abbrev pub renamed : (old new : ℕ) → LiveArrival → LiveArrival
-renamed j k l = record { arrival = l.arrival; key = cond (carries j l) (some k) l.key; code = l.code }
+renamed j k l = record { arrival = l.arrival; key = cond (carries j l) (some k) l.key; code = l.code; year = l.year }
 
 -- what an accepted call adds to what is told
 unfoldable pub says : HistoryOp → Told → Told
-says (add v) t = arrived t none v
-says (add_keyed j v) t = cond (taken j t.living) (with_living t (first_overwritten t.header j v t.living)) (arrived t (some j) v)
-says (add_multi j v) t = arrived t (some j) v
+says (add v y) t = arrived t none v y
+says (add_keyed j v y present) t = cond (taken j t.living) (with_living t (first_overwritten t.header j v y t.living)) (arrived t (some j) v y)
+says (add_multi j v y) t = arrived t (some j) v y
 says (relabel j k) t = with_living t (cond (renames j k t.living) (map (renamed j k) t.living) t.living)
-says (remove j) t = with_living t (keep (λ l. not (carries j l)) t.living)
+says (remove j present) t = with_living t (keep (λ l. not (carries j l)) t.living)
 says compact t = t
 says (score a q) t = t
 says (search q k places) t = t
@@ -107,11 +112,11 @@ says file_length t = t
 says (write places) t = t
 
 abbrev pub is_append : HistoryOp → List LiveArrival → Bool
-is_append (add v) ls = true
-is_append (add_keyed j v) ls = not (taken j ls)
-is_append (add_multi j v) ls = true
+is_append (add v y) ls = true
+is_append (add_keyed j v y present) ls = not (taken j ls)
+is_append (add_multi j v y) ls = true
 is_append (relabel j k) ls = false
-is_append (remove j) ls = false
+is_append (remove j present) ls = false
 is_append compact ls = false
 is_append (score a q) ls = false
 is_append (search q k places) ls = false
@@ -123,11 +128,11 @@ is_append file_length ls = false
 is_append (write places) ls = false
 
 abbrev pub is_compact : HistoryOp → Bool
-is_compact (add v) = false
-is_compact (add_keyed j v) = false
-is_compact (add_multi j v) = false
+is_compact (add v y) = false
+is_compact (add_keyed j v y present) = false
+is_compact (add_multi j v y) = false
 is_compact (relabel j k) = false
-is_compact (remove j) = false
+is_compact (remove j present) = false
 is_compact compact = true
 is_compact (score a q) = false
 is_compact (search q k places) = false
@@ -257,7 +262,7 @@ pub data Start (x : Index) (a : Arrays) : Type 0 where
   as_read : (file : List ℕ) (b : Arrays) → read_into b file ≡ begun (granted x) a → Start x a
 
 abbrev pub live_arrival : Cell → LiveArrival
-live_arrival c = record { arrival = c.number; key = key_of_mark c.slot.mark; code = c.slot.code }
+live_arrival c = record { arrival = c.number; key = key_of_mark c.slot.mark; code = c.slot.code; year = c.slot.year }
 
 -- "a read index's slots arrive as 0, 1, 2 in slot order; a new index has none". What was read is what the file says, whatever the arrays held: laws
 -- `AllArrive` and `ToldAsFiled`.
@@ -277,11 +282,11 @@ lives ls a = any (eqb a) (ids ls)
 
 -- "It names live slots only, each by arrival"
 abbrev pub names_live : List LiveArrival → HistoryOp → Bool
-names_live ls (add v) = true
-names_live ls (add_keyed j v) = true
-names_live ls (add_multi j v) = true
+names_live ls (add v y) = true
+names_live ls (add_keyed j v y present) = true
+names_live ls (add_multi j v y) = true
 names_live ls (relabel j k) = true
-names_live ls (remove j) = true
+names_live ls (remove j present) = true
 names_live ls compact = true
 names_live ls (score a q) = lives ls a
 names_live ls (search q k places) = true
@@ -356,9 +361,9 @@ SearchesSound =
 abbrev pub AllArrive : Type 0
 AllArrive = (x : Index) (a : Arrays) → Start x a → ids (begin x a).told.living ≡ below x.n
 
--- what a file tells: its header, and each of its slots as a live arrival, with the key and the code that it says
+-- what a file tells: its header, and each of its slots as a live arrival, with the key, the code and the year that it says
 abbrev pub filed_arrival : (file : List ℕ) → (slot : ℕ) → LiveArrival
-filed_arrival file i = record { arrival = i; key = key_from (entries_in file) i; code = (slot_in file i).code }
+filed_arrival file i = record { arrival = i; key = key_from (entries_in file) i; code = (slot_in file i).code; year = year_in file i }
 
 abbrev pub told_in : (file : List ℕ) → Told
 told_in file = record { header = header_in file; next = count_in file; living = tab (filed_arrival file) (count_in file) }
@@ -388,7 +393,7 @@ pub record Faithful (r : Run) : Type 0 where
   -- the arrivals not already dead at the last compaction are those of the slots in use, and the number that is handed for a live arrival is its place among them
   pub in_use : length r.arrivals ≡ r.index.n
   pub numbers : Each (λ a. get_elem? r.arrivals (number_now r.arrivals a) ≡ some a) (ids r.told.living)
-  -- live marks, keys and codes of the arrays are as the calls say
+  -- live marks, keys, codes and years of the arrays are as the calls say
   pub marks : map live_arrival (live_by r.arrivals (slots_of r)) ≡ r.told.living
   pub live : r.index.live ≡ length r.told.living
   -- each key's held slots are in rising order: the mission's proviso on relabelling always holds
@@ -429,6 +434,14 @@ moment r op = record { before = r; op = op }
 abbrev pub holders : (key : ℕ) → List LiveArrival → List ℕ
 holders j ls = ids (keep (carries j) ls)
 
+-- the first of them, which `add_keyed` overwrites
+abbrev pub first_with : (key : ℕ) → List LiveArrival → Option LiveArrival
+first_with j ls = get_elem? (keep (carries j) ls) 0
+
+-- 02, Req 06: "Whole-key removal tests every slot of the key": whether one must stay, at the present year that the call is told
+abbrev pub one_stays : (key present : ℕ) → List LiveArrival → Bool
+one_stays j present ls = any (λ l. carries j l && must_stay present l.year) ls
+
 -- "Key questions are all calls that only ask for a slot's key or for slots of a key"; "Relabel and removal answer yes or no"
 pub record AnswersKeys (r : Run) : Type 0 where
   -- `key_of` gives the key that the calls gave, `contains_key` says whether one has the key, `slot_at` the i-th that has it
@@ -437,7 +450,9 @@ pub record AnswersKeys (r : Run) : Type 0 where
   pub held : (j i : ℕ) → answer (moment r (slot_of j i)) ≡ some (maybe_slot (get_elem? (holders j r.told.living) i))
   -- yes where the calls tell of a change
   pub relabelled : (j k : ℕ) → answer (moment r (relabel j k)) ≡ some (flag (renames j k r.told.living))
-  pub removed : (j : ℕ) → answer (moment r (remove j)) ≡ some (flag (taken j r.told.living))
+  -- 21 where a live arrival of the key must stay; else yes where one has the key, no where none has
+  pub removed : (j present : ℕ) →
+      answer (moment r (remove j present)) ≡ some (cond (one_stays j present r.told.living) (refused 21) (flag (taken j r.told.living)))
 
 abbrev pub AlwaysAnswersKeys : Type 0
 AlwaysAnswersKeys = (x : Index) (a : Arrays) → Start x a → (h : History) → AnswersKeys (after (begin x a) h)
@@ -445,8 +460,10 @@ AlwaysAnswersKeys = (x : Index) (a : Arrays) → Start x a → (h : History) →
 -- an accepted add answers the arrival that stores its vector: "each accepted append is the next"; `add_keyed` on a held key "overwrites the first held"
 pub record AnswersAdds (r : Run) : Type 0 where
   pub appended : (op : HistoryOp) → is_append op r.told.living ≡ true → accepts (moment r op) ≡ true → answer (moment r op) ≡ some (slot r.told.next)
-  pub overwritten : (j : ℕ) (v : Item) → taken j r.told.living ≡ true → accepts (moment r (add_keyed j v)) ≡ true →
-      answer (moment r (add_keyed j v)) ≡ Option.map slot (get_elem? (holders j r.told.living) 0)
+  -- 1, 2, 3, then 21 where the first held must stay: "it comes after every other test of that call"
+  pub overwritten : (j : ℕ) (v : Item) (y present : ℕ) (l : LiveArrival) → first_with j r.told.living ≡ some l →
+      answer (moment r (add_keyed j v y present)) ≡
+      some (unless (first_of (fault r.told.header v.vector ∷ when (must_stay present l.year) 21 ∷ [])) (slot l.arrival))
 
 abbrev pub AlwaysAnswersAdds : Type 0
 AlwaysAnswersAdds = (x : Index) (a : Arrays) → Start x a → (h : History) → AnswersAdds (after (begin x a) h)
@@ -473,7 +490,7 @@ AlwaysAnswersScores = (x : Index) (a : Arrays) → Start x a → (h : History) �
 
 -- the file of the live arrivals as the calls tell of them: "Only live slots are written, numbered from 0 in slot order, in the key entries too"
 abbrev pub file_of_living : Told → List ℕ
-file_of_living t = file_of t.header (map (λ l. record { code = l.code; key = l.key }) t.living)
+file_of_living t = file_of t.header (map (λ l. record { code = l.code; key = l.key; year = l.year }) t.living)
 
 pub record Files (r : Run) : Type 0 where
   pub sized : answer (moment r file_length) ≡ some (size (length (file_of_living r.told)))
@@ -481,6 +498,47 @@ pub record Files (r : Run) : Type 0 where
 
 abbrev pub AlwaysFiles : Type 0
 AlwaysFiles = (x : Index) (a : Arrays) → Start x a → (h : History) → Files (after (begin x a) h)
+
+-- ---- laws beside the claims: years, 02, Req 06
+
+-- the present year that a call is told, whichever slots it names
+abbrev pub told_present : HistoryOp → Option ℕ
+told_present op = present_told (op_at (λ a. a) op)
+
+-- no call of the history is told a present year that reaches this year
+abbrev pub Unreached : (year : ℕ) → History → Type 0
+Unreached y h = Each (λ op. (present : ℕ) → told_present op ≡ some present → present < y) h
+
+-- The live arrival l stands among these too, with its code and its year. A relabelling may have given it another key.
+pub record LivesOn (l : LiveArrival) (ls : List LiveArrival) : Type 0 where
+  pub same : LiveArrival
+  pub lives : Memᴰ same ls
+  pub arrival : same.arrival ≡ l.arrival
+  pub code : same.code ≡ l.code
+  pub year : same.year ≡ l.year
+
+-- What its year buys the live arrival l of the run r, whatever calls follow, refused ones among them. Of year 1, "no duty", nothing is said.
+pub record KeptInTime (r : Run) (l : LiveArrival) : Type 0 where
+  -- "0 is kept for good"
+  pub for_good : l.year ≡ 0 → (h : History) → LivesOn l (after r h).told.living
+  -- "any other the first year in which it may go"
+  pub in_time : 1 < l.year → (h : History) → Unreached l.year h → LivesOn l (after r h).told.living
+
+-- Each live arrival is kept in time: one that a call adds or overwrites from that call on, with the code and the year that the call gives it, and any from any later
+-- moment. It is said of what is told; that live marks, codes and years of the arrays are as they are told is `Faithful.marks`.
+pub record KeepsYears (r : Run) : Type 0 where
+  pub living : Each (KeptInTime r) r.told.living
+  pub added : (v : Item) (y : ℕ) → accepts (moment r (add v y)) ≡ true → KeptInTime (advance r (add v y)) (newcomer r.told none v y)
+  pub added_keyed : (j : ℕ) (v : Item) (y present : ℕ) → taken j r.told.living ≡ false → accepts (moment r (add_keyed j v y present)) ≡ true →
+      KeptInTime (advance r (add_keyed j v y present)) (newcomer r.told (some j) v y)
+  pub added_multi : (j : ℕ) (v : Item) (y : ℕ) → accepts (moment r (add_multi j v y)) ≡ true →
+      KeptInTime (advance r (add_multi j v y)) (newcomer r.told (some j) v y)
+  pub overwritten : (j : ℕ) (v : Item) (y present : ℕ) (l : LiveArrival) → first_with j r.told.living ≡ some l →
+      accepts (moment r (add_keyed j v y present)) ≡ true →
+      KeptInTime (advance r (add_keyed j v y present)) (coded_anew r.told.header v y l)
+
+abbrev pub AlwaysKeepsYears : Type 0
+AlwaysKeepsYears = (x : Index) (a : Arrays) → Start x a → (h : History) → KeepsYears (after (begin x a) h)
 
 -- ---- laws beside the claims: what lent slices hold
 

@@ -231,6 +231,12 @@ module _ (x : Index) (a : Arrays) (f : Fitting x a) where
       (λ i l. sym (own_at i l).alive)
       (λ i l k. none-past x.n a.alive f.clear i l ∙ sym (get_or-tab (λ j. 0) (length a.alive) i 0 (omega (arith, long, k))))))
 
+  own-years : over (map (λ s. s.year) (slots head a x.n f.space)) a.years ≡ a.years
+  unfolding slot_at
+  own-years =
+      rw (map-tab (λ (s : Slot). s.year) (slot_at head a) x.n)
+      (over-own (λ i. get_or a.years i 0) x.n 0 a.years (roomy x.n head a f.space).years (λ i l. refl))
+
   overlay-own : overlay (unmarked a) (state_of x a).slots ≡ a
   unfolding overlay state_of slot_at row_at over joined
   overlay-own =
@@ -244,6 +250,7 @@ module _ (x : Index) (a : Arrays) (f : Fitting x a) where
         alive = own-alive j;
         codes2 = codes2 x.residual refl j;
         scales2 = scales2 x.residual refl j;
+        years = own-years j;
       }
     where
       codes2 : (b : Bool) → x.residual ≡ b → over (blocks_of (seconds (slots head a x.n f.space))) a.codes2 ≡ a.codes2

@@ -15,7 +15,7 @@ use Rattle.encode.specs.declared.Header.{Header}
 use Rattle.encode.specs.Coded.{fault, no_spare, spare_of}
 use Rattle.index.specs.declared.Index.{Index}
 use Rattle.index.specs.Arrays.{Arrays, unmarked}
-use Rattle.index.specs.State.{Mark, dead, unkeyed, keyed, Slot, State, live, header_of, capacity, state_of, new_slot, with_mark, with_bits}
+use Rattle.index.specs.State.{Mark, dead, unkeyed, keyed, Slot, State, is_live, live, header_of, capacity, state_of, new_slot, with_mark, with_bits}
 use Rattle.index.specs.Fit.{fit}
 use Rattle.index.specs.Codec.{encoded}
 use Rattle.index.specs.Step.{Op, set_bits, add, add_keyed, add_multi, relabel, remove, remove_at, key_of, contains, slot_of, enable, score, search, search_keyed, search_cascade, compact, file_length, write, Item, Answer, refused, done, flag, slot, first_of, when, unless, Cell, live_from, holds, holds_at, number_where, slot_holding, held_by, is_held, on_mark, relabelled, gap_filled, position_of, overwritten, one_more, rising, compacted, Outcome, answered, with_slots, guarded, appended, remarked, width_set, step}
@@ -88,15 +88,15 @@ marks-on_mark : (f : Mark → Mark) (ss : List Slot) → marks (map (on_mark f) 
 marks-on_mark f ss = map-map (λ (s : Slot). s.mark) (on_mark f) ss ∙ sym (map-map f (λ (s : Slot). s.mark) ss)
 
 module _ (seen : ℕ → ℕ) (s : Slot) (ss : List Slot) where
-  -- the first slot of a compaction has its code still
-  rising-first : (next : ℕ → ℕ) × (m : Mark) × (rising seen (s ∷ ss) ≡ with_mark s m ∷ rising next ss)
+  -- the first slot of a compaction has its code and year still, and is live where it was
+  pub rising-first : (next : ℕ → ℕ) × (m : Mark) × (rising seen (s ∷ ss) ≡ with_mark s m ∷ rising next ss) × (is_live m ≡ live s)
   unfolding rising
   rising-first = go s.mark
     where
-      go : (m : Mark) → (next : ℕ → ℕ) × (n : Mark) × (rising seen (with_mark s m ∷ ss) ≡ with_mark s n ∷ rising next ss)
-      go (dead u) = (seen, dead u, refl)
-      go (unkeyed u) = (seen, unkeyed u, refl)
-      go (keyed k p) = (one_more k seen, keyed k (seen k), refl)
+      go : (m : Mark) → (next : ℕ → ℕ) × (n : Mark) × (rising seen (with_mark s m ∷ ss) ≡ with_mark s n ∷ rising next ss) × (is_live n ≡ is_live m)
+      go (dead u) = (seen, dead u, refl, refl)
+      go (unkeyed u) = (seen, unkeyed u, refl, refl)
+      go (keyed k p) = (one_more k seen, keyed k (seen k), refl, refl)
 
 pub rising-length : (seen : ℕ → ℕ) (ss : List Slot) → length (rising seen ss) ≡ length ss
 unfolding rising
@@ -135,12 +135,12 @@ module _ (a : Arrays) (s : State) (t : Sound (capacity s.header a) s) where
   slots_kept : (on : Bool) (ss : List Slot) (b : Answer) → length ss ≤ room → AllShaped s.header ss → OnceEach (marks ss) → Kept a (record { state = with_slots s on ss; answer = b })
   slots_kept on ss b l c o = record { state = record { header = t.header; space = l; shape = c; positions = o } }
 
-  appended-kept : (m : Mark) (v : Item) → OnceEach (ms ++ (m ∷ [])) → Kept a (appended room s m v)
+  appended-kept : (m : Mark) (v : Item) (y : ℕ) → OnceEach (ms ++ (m ∷ [])) → Kept a (appended room s m v y)
   unfolding appended
-  appended-kept m v o = guarded-kept _ _ (λ e. slots_kept false (s.slots ++ (new ∷ [])) _ (space e) shape (rw (map-append (λ (u : Slot). u.mark) s.slots (new ∷ [])) o))
+  appended-kept m v y o = guarded-kept _ _ (λ e. slots_kept false (s.slots ++ (new ∷ [])) _ (space e) shape (rw (map-append (λ (u : Slot). u.mark) s.slots (new ∷ [])) o))
     where
       new : Slot
-      new = new_slot m (encoded s.header no_spare v)
+      new = new_slot m (encoded s.header no_spare v) y
 
       space : first_of (fault s.header v.vector ∷ when (leb room (length s.slots)) 8 ∷ []) ≡ 0 → length (s.slots ++ (new ∷ [])) ≤ room
       space e =
@@ -181,8 +181,8 @@ module _ (a : Arrays) (s : State) (t : Sound (capacity s.header a) s) where
             residual = plain s.header.residual (eqb w 4) (when-none (s.header.residual && not (eqb w 4)) 6 last.0);
           }
 
-  first-kept : (j : ℕ) (v : Item) → slot_holding j 0 (live_from 0 s.slots) ≡ none → Kept a (appended room s (keyed j 0) v)
-  first-kept j v e = appended-kept (keyed j 0) v (subst (λ (p : ℕ). OnceEach (ms ++ (keyed j p ∷ []))) free (once-keyed ms t.positions j))
+  first-kept : (j : ℕ) (v : Item) (y : ℕ) → slot_holding j 0 (live_from 0 s.slots) ≡ none → Kept a (appended room s (keyed j 0) v y)
+  first-kept j v y e = appended-kept (keyed j 0) v y (subst (λ (p : ℕ). OnceEach (ms ++ (keyed j p ∷ []))) free (once-keyed ms t.positions j))
     where
       none_first : count (holds_at j 0) ms ≡ 0
       none_first = sym (live-count (holds_at j 0) (λ u. refl) 0 s.slots) ∙ number-none (λ c. holds_at j 0 c.slot.mark) (live_from 0 s.slots) e
@@ -194,16 +194,16 @@ module _ (a : Arrays) (s : State) (t : Sound (capacity s.header a) s) where
           go true f = absurd (omega (arith, none_first, t.positions j 0, ap bit f))
           go false f = omega (arith, ltb-false 0 (count (holds j) ms) f)
 
-  overwritten-kept : (j : ℕ) (v : Item) (b : Answer) → Kept a (record { state = with_slots s false (map (overwritten s.header j v) s.slots); answer = b })
-  overwritten-kept j v b =
-      slots_kept false (map (overwritten s.header j v) s.slots) b (rw (length-map s.slots (overwritten s.header j v)) t.space)
-      (each_map (λ u. Shaped s.header u.code) (overwritten s.header j v) s.slots
-      (each_weaken (λ u. Shaped s.header u.code) (λ u. Shaped s.header (overwritten s.header j v u).code) s.slots
+  overwritten-kept : (j : ℕ) (v : Item) (y : ℕ) (b : Answer) → Kept a (record { state = with_slots s false (map (overwritten s.header j v y) s.slots); answer = b })
+  overwritten-kept j v y b =
+      slots_kept false (map (overwritten s.header j v y) s.slots) b (rw (length-map s.slots (overwritten s.header j v y)) t.space)
+      (each_map (λ u. Shaped s.header u.code) (overwritten s.header j v y) s.slots
+      (each_weaken (λ u. Shaped s.header u.code) (λ u. Shaped s.header (overwritten s.header j v y u).code) s.slots
       (λ u c. either (Shaped s.header) (holds_at j 0 u.mark) (encoded-shaped s.header (spare_of s.header u.code) v) c) t.shape))
-      (rw (map-map (λ (u : Slot). u.mark) (overwritten s.header j v) s.slots) t.positions)
+      (rw (map-map (λ (u : Slot). u.mark) (overwritten s.header j v y) s.slots) t.positions)
 
-  multi-kept : (j : ℕ) (v : Item) → Kept a (appended room s (keyed j (held_by j (live_from 0 s.slots))) v)
-  multi-kept j v = appended-kept (keyed j (held_by j (live_from 0 s.slots))) v (rw (held-count j) (once-keyed ms t.positions j))
+  multi-kept : (j : ℕ) (v : Item) (y : ℕ) → Kept a (appended room s (keyed j (held_by j (live_from 0 s.slots))) v y)
+  multi-kept j v y = appended-kept (keyed j (held_by j (live_from 0 s.slots))) v y (rw (held-count j) (once-keyed ms t.positions j))
 
   relabel-kept : (j k : ℕ) → (is_held j (live_from 0 s.slots) && (eqb j k || not (is_held k (live_from 0 s.slots)))) ≡ true → OnceEach (map (relabelled j k) ms)
   relabel-kept j k e = go (eqb j k) refl (and_right (is_held j (live_from 0 s.slots)) (eqb j k || not (is_held k (live_from 0 s.slots))) e)
@@ -229,12 +229,12 @@ module _ (a : Arrays) (s : State) (t : Sound (capacity s.header a) s) where
   step_kept : (op : Op) → Kept a (step room s op)
   unfolding step
   step_kept (set_bits w) = width-kept w
-  step_kept (add v) = appended-kept (unkeyed 0) v (once-unkeyed ms t.positions 0)
-  step_kept (add_keyed j v) = either_way (Kept a) (slot_holding j 0 (live_from 0 s.slots)) _ _ (first-kept j v) (λ i e. guarded-kept _ _ (λ f. overwritten-kept j v (slot i)))
-  step_kept (add_multi j v) = multi-kept j v
+  step_kept (add v y) = appended-kept (unkeyed 0) v y (once-unkeyed ms t.positions 0)
+  step_kept (add_keyed j v y present) = either_way (Kept a) (slot_holding j 0 (live_from 0 s.slots)) _ _ (first-kept j v y) (λ i e. guarded-kept _ _ (λ f. overwritten-kept j v y (slot i)))
+  step_kept (add_multi j v y) = multi-kept j v y
   step_kept (relabel j k) = marked-kept _ 0 _ (relabel-kept j k)
-  step_kept (remove j) = marked-kept _ 0 _ (λ e. once-removed ms t.positions j)
-  step_kept (remove_at j i) = either_way (Kept a) (position_of j (get_elem? s.slots i)) _ _ (λ e. answered-kept (flag false)) (λ gap e. marked-kept true 0 _ (λ f. gap-kept j i gap e))
+  step_kept (remove j present) = marked-kept _ _ _ (λ e. once-removed ms t.positions j)
+  step_kept (remove_at j i present) = either_way (Kept a) (position_of j (get_elem? s.slots i)) _ _ (λ e. answered-kept (flag false)) (λ gap e. marked-kept true _ _ (λ f. gap-kept j i gap e))
   step_kept (key_of i) = answered-kept _
   step_kept (contains j) = answered-kept _
   step_kept (slot_of j i) = answered-kept _

@@ -18,3 +18,4 @@ pub mod Passed
 pub mod Ties
 pub mod OneTrait
 pub mod LiveBits
+pub mod Years

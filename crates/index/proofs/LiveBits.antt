@@ -24,7 +24,7 @@ use Rattle.index.proofs.Fits.{fitting, none_over, none-laid}
 use Rattle.index.proofs.Read.{record_in, is_made, read_fits}
 
 same-arrays : (n : ℕ) (a : Arrays) → SameArrays n a a
-same-arrays n a = record { codes = refl; scales = refl; keys = refl; keyed = refl; held = refl; alive = refl; codes2 = refl; scales2 = refl }
+same-arrays n a = record { codes = refl; scales = refl; keys = refl; keyed = refl; held = refl; alive = refl; codes2 = refl; scales2 = refl; years = refl }
 
 -- slots over arrays in which none is marked, and over the same arrays as they were
 laid_same : (s : State) (a : Arrays) → SameArrays (record_of s).n (overlay (unmarked a) s.slots) (overlay a s.slots)
@@ -32,7 +32,7 @@ unfolding record_of overlay
 laid_same s a =
     let ms = map (λ (t : Slot). alive_of t.mark) s.slots in
     let many = sym (length-map s.slots (λ t. alive_of t.mark)) in
-    record { codes = refl; scales = refl; keys = refl; keyed = refl; held = refl; alive = take-over ms (no_marks a.alive) _ many ∙ sym (take-over ms a.alive _ many); codes2 = refl; scales2 = refl }
+    record { codes = refl; scales = refl; keys = refl; keyed = refl; held = refl; alive = take-over ms (no_marks a.alive) _ many ∙ sym (take-over ms a.alive _ many); codes2 = refl; scales2 = refl; years = refl }
 
 module _ (x : Index) (a : Arrays) (op : Op) where
   calls_same : none_from x.n a.alive ≡ true → SameResult (call x a op) (call_by_mark x a op)
@@ -74,7 +74,7 @@ begun-same (suc n) x a b c e = record { answer = refl; arrays = refl }
 
 made-same : (h : Header) (a : Arrays) → SameArrays (record_of (empty h)).n (unmarked a) a
 unfolding record_of
-made-same h a = record { codes = refl; scales = refl; keys = refl; keyed = refl; held = refl; alive = refl; codes2 = refl; scales2 = refl }
+made-same h a = record { codes = refl; scales = refl; keys = refl; keyed = refl; held = refl; alive = refl; codes2 = refl; scales2 = refl; years = refl }
 
 read_same : (a : Arrays) (file : List ℕ) → SameArrays (record_of (state_in file)).n (overlay (unmarked a) (slots_in file)) (overlay a (slots_in file))
 unfolding state_in

@@ -193,6 +193,7 @@ module _ (x : Index) (a : Arrays) (one : one_trait (header_of x) ≡ true) where
           first = stage (get_or a.scales i 0) (block-low (block_size h) i a.codes j);
           second = second h.residual j;
         };
+    year = (slot_at h a i).year;
   }
     where
       second : (b : Bool) → cond b (some (stage_at h a.scales2 (high_cleared a.codes2) i)) none ≡ Option.map low_stage (cond b (some (stage_at h a.scales2 a.codes2 i)) none)

@@ -38,6 +38,7 @@ pub record Roomy (n : ℕ) (h : Header) (a : Arrays) : Type 0 where
   pub keyed : n ≤ length a.keyed
   pub held : n ≤ length a.held
   pub alive : n ≤ length a.alive
+  pub years : n ≤ length a.years
   pub codes2 : h.residual ≡ true → n * block_size h ≤ length a.codes2
   pub scales2 : h.residual ≡ true → n ≤ length a.scales2
 
@@ -55,8 +56,9 @@ roomy n h a l =
       keyed = r.1.1.1.0;
       held = r.1.1.1.1.0;
       alive = r.1.1.1.1.1.0;
-      codes2 = λ e. blocks-room n (block_size h) (length a.codes2) (second h.residual e r.1.1.1.1.1.1).0;
-      scales2 = λ e. (second h.residual e r.1.1.1.1.1.1).1.0;
+      years = r.1.1.1.1.1.1.0;
+      codes2 = λ e. blocks-room n (block_size h) (length a.codes2) (second h.residual e r.1.1.1.1.1.1.1).0;
+      scales2 = λ e. (second h.residual e r.1.1.1.1.1.1.1).1.0;
     }
   where
     second : (b : Bool) → b ≡ true → Reaching n (cond b (length a.codes2 / block_size h ∷ length a.scales2 ∷ []) []) →
@@ -132,6 +134,7 @@ pub record SameLengths (a b : Arrays) : Type 0 where
   pub alive : length a.alive ≡ length b.alive
   pub codes2 : length a.codes2 ≡ length b.codes2
   pub scales2 : length a.scales2 ≡ length b.scales2
+  pub years : length a.years ≡ length b.years
 
 pub same-lengths : {a b c : Arrays} → SameLengths a b → SameLengths b c → SameLengths a c
 same-lengths e f =
@@ -144,11 +147,12 @@ same-lengths e f =
       alive = e.alive ∙ f.alive;
       codes2 = e.codes2 ∙ f.codes2;
       scales2 = e.scales2 ∙ f.scales2;
+      years = e.years ∙ f.years;
     }
 
 pub same-rooms : (h : Header) (a b : Arrays) → SameLengths a b → rooms h a ≡ rooms h b
 unfolding rooms
-same-rooms h a b e = rw (e.codes, e.scales, e.keys, e.keyed, e.held, e.alive, e.codes2, e.scales2)
+same-rooms h a b e = rw (e.codes, e.scales, e.keys, e.keyed, e.held, e.alive, e.codes2, e.scales2, e.years)
 
 length-over-map : {A B : Type 0} (g : A → B) (ys : List A) (xs : List B) → length ys ≤ length xs → length (over (map g ys) xs) ≡ length xs
 length-over-map g ys xs l = length_over (map g ys) xs (rw (length-map ys g) l)
@@ -197,9 +201,13 @@ module _ (h : Header) (a : Arrays) (ss : List Slot) (shape : AllShaped h ss) (sp
           ∙ get_or-map second_of ss i d))
       go false e = rw e (sym (plain-none h e (get_or ss i d) (each_at (λ s. Shaped h s.code) ss i d shape l)))
 
+  year-over : (i : ℕ) (d : Slot) → i < length ss → (slot_at h (overlay a ss) i).year ≡ (get_or ss i d).year
+  unfolding slot_at overlay
+  year-over i d l = get_or-over-map (λ (s : Slot). s.year) ss a.years i d 0 l
+
   -- what was written is read
   pub slots-back : tab (slot_at h (overlay a ss)) (length ss) ≡ ss
-  slots-back = tab-is (slot_at h (overlay a ss)) ss (λ i d l j. record { mark = mark-over i d l j; code = record { first = first-over i d l j; second = second-over i d l j } })
+  slots-back = tab-is (slot_at h (overlay a ss)) ss (λ i d l j. record { mark = mark-over i d l j; code = record { first = first-over i d l j; second = second-over i d l j }; year = year-over i d l j })
 
   pub overlay-lengths : SameLengths (overlay a ss) a
   unfolding overlay over joined
@@ -214,6 +222,7 @@ module _ (h : Header) (a : Arrays) (ss : List Slot) (shape : AllShaped h ss) (sp
         alive = length-over-map (λ (s : Slot). alive_of s.mark) ss a.alive r.alive;
         codes2 = codes2 h.residual refl;
         scales2 = scales2 h.residual refl;
+        years = length-over-map (λ (s : Slot). s.year) ss a.years r.years;
       }
     where
       codes2 : (b : Bool) → h.residual ≡ b → length (over (blocks_of (seconds ss)) a.codes2) ≡ length a.codes2
@@ -235,7 +244,7 @@ read_back s a shape space = λ i. record { header = s.header; cascade = s.cascad
 
 pub unmarked-lengths : (a : Arrays) → SameLengths (unmarked a) a
 unmarked-lengths a =
-    record { codes = refl; scales = refl; keys = refl; keyed = refl; held = refl; alive = length-tab (λ i. 0) (length a.alive); codes2 = refl; scales2 = refl }
+    record { codes = refl; scales = refl; keys = refl; keyed = refl; held = refl; alive = length-tab (λ i. 0) (length a.alive); codes2 = refl; scales2 = refl; years = refl }
 
 pub unmarked-capacity : (h : Header) (a : Arrays) → capacity h (unmarked a) ≡ capacity h a
 unmarked-capacity h a = ap (least 65536) (same-rooms h (unmarked a) a (unmarked-lengths a))

@@ -116,4 +116,5 @@ module _ (h : Header) (a : Arrays) (ss : List Slot) (s : Slot) (shape : AllShape
         alive = over-entry (λ (t : Slot). alive_of t.mark) ss s a.alive r.alive j;
         codes2 = second-blocks h.residual refl j;
         scales2 = second-scales h.residual refl j;
+        years = over-entry (λ (t : Slot). t.year) ss s a.years r.years j;
       }

@@ -24,8 +24,8 @@ use Rattle.index.specs.State.{Mark, dead, unkeyed, keyed, Slot, is_live, live, c
 use Rattle.index.specs.Fit.{between, fit}
 use Rattle.index.specs.Step.{first_of, key_of_mark, one_more, rising, compacted}
 use Rattle.index.specs.Sound.{block_length, Shaped, AllShaped, marks, OnceEach, Ranged, Sound}
-use Rattle.index.specs.Form.{form_of, stages_at, second_at, keys_at, end_at}
-use Rattle.index.specs.Read.{little_endian, version_in, form_in, dim_in, count_in, working_field, header_in, head_fault, stage_from, well_keyed, key_from, mark_from, first_length, second_length, stages_in, second_in, table_in, table_length, stated_end, tail_in, entries_in, slot_in, slots_in, state_in, read_refusal, read_into}
+use Rattle.index.specs.Form.{form_of, stages_at, second_at, keys_at, years_at, end_at}
+use Rattle.index.specs.Read.{little_endian, version_in, form_in, dim_in, count_in, working_field, header_in, head_fault, stage_from, well_keyed, key_from, mark_from, first_length, second_length, stages_in, second_in, table_in, entry_count, table_length, years_in, years_length, stated_end, tail_in, entries_in, slot_in, slots_in, state_in, read_refusal, read_into}
 use Rattle.index.proofs.Blocks.{length-block}
 use Rattle.index.proofs.Fits.{sound-fit, laid-back}
 use Rattle.index.proofs.Changes.{once-compacted}
@@ -63,6 +63,7 @@ pub record Accepted (file : List ℕ) (a : Arrays) : Type 0 where
   pub dim : 1 ≤ dim_in file
   pub second : second_length file ≤ length (second_in file)
   pub table : table_length file ≤ length (table_in file)
+  pub years : years_length file ≤ length (years_in file)
   pub keys : well_keyed (count_in file) (map (λ e. e.slot) (entries_in file)) ≡ true
 
 pub not-not : (b : Bool) → not b ≡ false → b ≡ true
@@ -76,6 +77,7 @@ accepted file a e =
     let h = all-passed _ t.0 in
     let limits = or-none _ _ (when-none _ 19 t.1.0) in
     let rest = or-none _ _ (when-none _ 13 t.1.1.1.1.1.0) in
+    let blocks = or-none _ _ rest.0 in
     record {
       known = not-not _ (when-none _ 15 h.1.1.0);
       working = ltb-false (dim_in file) (working_field file) (when-none _ 16 h.1.1.1.0);
@@ -85,10 +87,20 @@ accepted file a e =
       space = ltb-false (capacity (header_in file) a) (count_in file) (when-none _ 19 t.1.1.0);
       first = ltb-false (length (stages_in file)) (first_length file) (when-none _ 13 t.1.1.1.0);
       dim = let z : dim_in file ≡ 0 → ⊥ = eqb-false (dim_in file) 0 (when-none _ 16 t.1.1.1.1.0) in omega arith;
-      second = ltb-false (length (second_in file)) (second_length file) rest.0;
-      table = ltb-false (length (table_in file)) (table_length file) rest.1;
+      second = ltb-false (length (second_in file)) (second_length file) blocks.0;
+      table = ltb-false (length (table_in file)) (table_length file) blocks.1;
+      years = ltb-false (length (years_in file)) (years_length file) rest.1;
       keys = not-not _ (when-none _ 18 t.1.1.1.1.1.1.0);
     }
+
+-- a version with a second stage has no width byte
+residual-plain : (v : ℕ) → (form_of v).second ≡ true → (form_of v).width ≡ false
+unfolding form_of
+residual-plain v e = go (eqb v 260) refl e
+  where
+    go : (b : Bool) → eqb v 260 ≡ b → (b || eqb v 263) ≡ true → (form_of v).width ≡ false
+    go true f g = rw (eqb-true v 260 f)
+    go false f g = rw (eqb-true v 263 g)
 
 -- ---- the stated end
 
@@ -103,10 +115,13 @@ module _ (file : List ℕ) where
   pub table_at : table_in file ≡ drop (keys_at (form_in file) w (count_in file)) file
   table_at = ap (drop (second_length file)) second_at_lem ∙ drop-drop (second_length file) (second_at (form_in file) w (count_in file)) file
 
+  pub years-there : years_in file ≡ drop (years_at (form_in file) w (count_in file) (entry_count file)) file
+  years-there = ap (drop (table_length file)) table_at ∙ drop-drop (table_length file) (keys_at (form_in file) w (count_in file)) file
+
   -- what follows the last block begins at the stated end
-  pub tail_at : drop (table_length file) (table_in file) ≡ tail_in file
+  pub tail_at : drop (years_length file) (years_in file) ≡ tail_in file
   unfolding end_at
-  tail_at = ap (drop (table_length file)) table_at ∙ drop-drop (table_length file) (keys_at (form_in file) w (count_in file)) file
+  tail_at = ap (drop (years_length file)) years-there ∙ drop-drop (years_length file) (years_at (form_in file) w (count_in file) (entry_count file)) file
 
   -- and no accepted file ends before it
   pub end-there : (a : Arrays) → Accepted file a → stated_end file ≤ length file
@@ -118,9 +133,11 @@ module _ (file : List ℕ) where
         t.first,
         t.second,
         t.table,
+        t.years,
         length-drop (stages_at (form_in file)) file,
         length-drop (first_length file) (stages_in file),
         length-drop (second_length file) (second_in file),
+        length-drop (table_length file) (table_in file),
       )
 
 -- ---- rising order
@@ -219,7 +236,7 @@ module _ (file : List ℕ) where
         go (suc f) l = rw (ne_eqb (suc f) 0 (λ e. absurd (omega arith)), le-leb 1 (suc f) (omega arith)) (le-leb (suc f) (dim_in file) l)
 
         plain : (b : Bool) → (form_in file).second ≡ b → (not b || eqb (header_in file).bits 4) ≡ true
-        plain true e = rw (eqb-true (version_in file) 260 e)
+        plain true e = rw (residual-plain (version_in file) e)
         plain false e = refl
 
     stage-sized : (bytes : List ℕ) → first_length file ≤ length bytes → (i : ℕ) → i < count_in file →

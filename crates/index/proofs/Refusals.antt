@@ -19,7 +19,7 @@ use Rattle.index.specs.Arrays.{Arrays, unmarked}
 use Rattle.index.specs.State.{Mark, keyed, Slot, State, header_of, capacity, state_of, record_of, overlay}
 use Rattle.index.specs.Codec.{score_of}
 use Rattle.index.specs.Fit.{fit}
-use Rattle.index.specs.Step.{Op, set_bits, add, add_keyed, add_multi, relabel, remove, remove_at, key_of, contains, slot_of, enable, score, search, search_keyed, search_cascade, compact, file_length, write, Answer, refused, done, flag, slot, maybe_slot, maybe_key, score_is, hits, key_hits, size, bytes, first_of, when, unless, Cell, live_from, slot_holding, position_of, Item, Query, Hit, hits_of, rank, by_slot, short_result, query_refusal, candidates, wide, file_bytes, Outcome, searched, searched_cascade, score_answer, answered, guarded, appended, remarked, width_set, step}
+use Rattle.index.specs.Step.{Op, set_bits, add, add_keyed, add_multi, relabel, remove, remove_at, key_of, contains, slot_of, enable, score, search, search_keyed, search_cascade, compact, file_length, write, Answer, refused, done, flag, slot, maybe_slot, maybe_key, score_is, hits, key_hits, size, bytes, first_of, when, unless, Cell, live_from, slot_holding, position_of, any_must_stay, Item, Query, Hit, hits_of, rank, by_slot, short_result, query_refusal, candidates, wide, file_bytes, Outcome, searched, searched_cascade, score_answer, answered, guarded, appended, remarked, width_set, step}
 use Rattle.index.specs.Call.{call}
 use Rattle.index.specs.OneTrait.{NeverTen}
 use Rattle.index.proofs.Fits.{overlay-self, record-self}
@@ -58,9 +58,9 @@ module _ (s : State) where
   guarded-stays zero o e = accepted-stays o e
   guarded-stays (suc m) o e = answered-stays (refused (suc m))
 
-  appended-stays : (room : ℕ) (m : Mark) (v : Item) → Stays s (appended room s m v)
+  appended-stays : (room : ℕ) (m : Mark) (v : Item) (y : ℕ) → Stays s (appended room s m v y)
   unfolding appended
-  appended-stays room m v = guarded-stays _ _ refl
+  appended-stays room m v y = guarded-stays _ _ refl
 
   marked-stays : (b : Bool) (refusal : ℕ) (f : Mark → Mark) → Stays s (remarked s b refusal f)
   unfolding remarked
@@ -70,12 +70,13 @@ module _ (s : State) where
   step_stays : (room : ℕ) (op : Op) → Stays s (step room s op)
   unfolding step width_set
   step_stays room (set_bits w) = guarded-stays _ _ refl
-  step_stays room (add v) = appended-stays room _ v
-  step_stays room (add_keyed j v) = either_way (Stays s) (slot_holding j 0 (live_from 0 s.slots)) _ _ (λ e. appended-stays room (keyed j 0) v) (λ i e. guarded-stays _ _ refl)
-  step_stays room (add_multi j v) = appended-stays room _ v
+  step_stays room (add v y) = appended-stays room _ v y
+  step_stays room (add_keyed j v y present) =
+      either_way (Stays s) (slot_holding j 0 (live_from 0 s.slots)) _ _ (λ e. appended-stays room (keyed j 0) v y) (λ i e. guarded-stays _ _ refl)
+  step_stays room (add_multi j v y) = appended-stays room _ v y
   step_stays room (relabel j k) = marked-stays _ _ _
-  step_stays room (remove j) = marked-stays _ _ _
-  step_stays room (remove_at j i) = either_way (Stays s) (position_of j (get_elem? s.slots i)) _ _ (λ e. answered-stays (flag false)) (λ gap e. marked-stays true _ _)
+  step_stays room (remove j present) = marked-stays _ _ _
+  step_stays room (remove_at j i present) = either_way (Stays s) (position_of j (get_elem? s.slots i)) _ _ (λ e. answered-stays (flag false)) (λ gap e. marked-stays true _ _)
   step_stays room (key_of i) = answered-stays _
   step_stays room (contains j) = answered-stays _
   step_stays room (slot_of j i) = answered-stays _
@@ -195,15 +196,18 @@ module _ (s : State) where
   guarded-numbered zero o k g = g
   guarded-numbered (suc n) o k g = suc-given n k
 
-  appended-numbered : (room : ℕ) (m : Mark) (v : Item) → Numbered (appended room s m v)
+  appended-numbered : (room : ℕ) (m : Mark) (v : Item) (y : ℕ) → Numbered (appended room s m v y)
   unfolding appended
-  appended-numbered room m v =
+  appended-numbered room m v y =
       guarded-numbered _ _ (first-not-ten _ (fault-not-ten s.header v.vector, (when-not-ten (leb room (length s.slots)) 8 refl, tt))) accepted-given
 
   marked-numbered : (b : Bool) (n : ℕ) (f : Mark → Mark) → NotTen n → Numbered (remarked s b n f)
   unfolding remarked
   marked-numbered true n f k = guarded-numbered n _ k accepted-given
   marked-numbered false n f k = accepted-given
+
+  stay-not-ten : (taken : Mark → Bool) (present : ℕ) → NotTen (when (any_must_stay taken present s.slots) 21)
+  stay-not-ten taken present = when-not-ten (any_must_stay taken present s.slots) 21 refl
 
   width-numbered : (w : ℕ) → Numbered (width_set s w)
   unfolding width_set
@@ -216,15 +220,15 @@ module _ (s : State) where
   step-numbered : (room : ℕ) (op : Op) → Numbered (step room s op)
   unfolding step
   step-numbered room (set_bits w) = width-numbered w
-  step-numbered room (add v) = appended-numbered room _ v
-  step-numbered room (add_keyed j v) =
-      either_way Numbered (slot_holding j 0 (live_from 0 s.slots)) _ _ (λ e. appended-numbered room (keyed j 0) v)
-      (λ i e. guarded-numbered _ _ (fault-not-ten s.header v.vector) accepted-given)
-  step-numbered room (add_multi j v) = appended-numbered room _ v
+  step-numbered room (add v y) = appended-numbered room _ v y
+  step-numbered room (add_keyed j v y present) =
+      either_way Numbered (slot_holding j 0 (live_from 0 s.slots)) _ _ (λ e. appended-numbered room (keyed j 0) v y)
+      (λ i e. guarded-numbered _ _ (first-not-ten _ (fault-not-ten s.header v.vector, (stay-not-ten _ present, tt))) accepted-given)
+  step-numbered room (add_multi j v y) = appended-numbered room _ v y
   step-numbered room (relabel j k) = marked-numbered _ 0 _ (record { other = refl })
-  step-numbered room (remove j) = marked-numbered _ 0 _ (record { other = refl })
-  step-numbered room (remove_at j i) =
-      either_way Numbered (position_of j (get_elem? s.slots i)) _ _ (λ e. accepted-given) (λ gap e. marked-numbered true 0 _ (record { other = refl }))
+  step-numbered room (remove j present) = marked-numbered _ _ _ (stay-not-ten _ present)
+  step-numbered room (remove_at j i present) =
+      either_way Numbered (position_of j (get_elem? s.slots i)) _ _ (λ e. accepted-given) (λ gap e. marked-numbered true _ _ (stay-not-ten _ present))
   step-numbered room (key_of i) = accepted-given
   step-numbered room (contains j) = accepted-given
   step-numbered room (slot_of j i) = accepted-given

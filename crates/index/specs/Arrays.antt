@@ -1,4 +1,4 @@
--- The eight lent arrays (document 01, "Rust forms that need another": "lent arrays of capacity length"). Seven of them stand here as they are lent. Of `alive`, which is lent
+-- The nine lent arrays (document 01, "Rust forms that need another": "lent arrays of capacity length"). Eight of them stand here as they are lent. Of `alive`, which is lent
 -- as words of 64 live marks, here stand the marks, one a slot (`marks_in`; they tell the words: law `marks-tell` of the crate marks).
 --
 -- An index of three slots in use, of four bytes a vector, in arrays that hold five:
@@ -10,6 +10,7 @@
 --   keyed     true         false         true       │    .       .
 --   held       0             0             1        │    .       .          key 7 holds slot 0 first, then slot 2
 --   alive      1             0             1        │    0       0          slot 1 is dead; the marks past the slots in use are 0
+--   years      1          2030            0        │    .       .          02, Req 06: "Each slot gains a 16-bit year"; that of a dead slot means nothing
 --
 -- and codes2, scales2 as codes, scales where the index is residual.
 use Rattle.std.specs.Prelude.{Bool, List, ℕ}
@@ -25,9 +26,10 @@ pub record Arrays : Type 0 where
   pub alive : List ℕ
   pub codes2 : List ℕ
   pub scales2 : List ℕ
+  pub years : List ℕ
 
-abbrev pub lent : List ℕ → List ℕ → List ℕ → List Bool → List ℕ → List ℕ → List ℕ → List ℕ → Arrays
-lent a b c d e f g h = record { codes = a; scales = b; keys = c; keyed = d; held = e; alive = marks_in f; codes2 = g; scales2 = h }
+abbrev pub lent : List ℕ → List ℕ → List ℕ → List Bool → List ℕ → List ℕ → List ℕ → List ℕ → List ℕ → Arrays
+lent a b c d e f g h i = record { codes = a; scales = b; keys = c; keyed = d; held = e; alive = marks_in f; codes2 = g; scales2 = h; years = i }
 
 -- the same arrays with no slot marked as live
 abbrev pub unmarked : Arrays → Arrays
@@ -41,4 +43,5 @@ unmarked a =
       alive = no_marks a.alive;
       codes2 = a.codes2;
       scales2 = a.scales2;
+      years = a.years;
     }

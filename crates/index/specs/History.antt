@@ -6,10 +6,11 @@ use Rattle.index.specs.Step.{Op, Item, Query}
 
 -- A call about a slot names an arrival: "a read index's slots arrive as 0, 1, 2 in slot order; a new index has none; each accepted append is the next, an overwrite none".
 pub data HistoryOp : Type 0 where
-  add : Item → HistoryOp
-  add_keyed add_multi : (key : ℕ) → Item → HistoryOp
+  add : Item → (year : ℕ) → HistoryOp
+  add_keyed : (key : ℕ) → Item → (year present : ℕ) → HistoryOp
+  add_multi : (key : ℕ) → Item → (year : ℕ) → HistoryOp
   relabel : (old new : ℕ) → HistoryOp
-  remove : (key : ℕ) → HistoryOp
+  remove : (key present : ℕ) → HistoryOp
   compact : HistoryOp
   score : (arrival : ℕ) → Query → HistoryOp
   search search_keyed : Query → (k places : ℕ) → HistoryOp
@@ -21,11 +22,11 @@ pub data HistoryOp : Type 0 where
 
 -- "A call that names an arrival is handed the slot's number at that moment", which is what `number` says of each arrival.
 abbrev pub op_at : (number : ℕ → ℕ) → HistoryOp → Op
-op_at number (add v) = Step.add v
-op_at number (add_keyed j v) = Step.add_keyed j v
-op_at number (add_multi j v) = Step.add_multi j v
+op_at number (add v y) = Step.add v y
+op_at number (add_keyed j v y present) = Step.add_keyed j v y present
+op_at number (add_multi j v y) = Step.add_multi j v y
 op_at number (relabel j k) = Step.relabel j k
-op_at number (remove j) = Step.remove j
+op_at number (remove j present) = Step.remove j present
 op_at number compact = Step.compact
 op_at number (score i q) = Step.score (number i) q
 op_at number (search q k places) = Step.search q k places

@@ -17,3 +17,4 @@ pub mod History
 pub mod Sound
 pub mod Read
 pub mod LiveBits
+pub mod Years

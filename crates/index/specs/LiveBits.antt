@@ -38,6 +38,7 @@ pub record SameArrays (n : ℕ) (a b : Arrays) : Type 0 where
   pub alive : take n a.alive ≡ take n b.alive
   pub codes2 : a.codes2 ≡ b.codes2
   pub scales2 : a.scales2 ≡ b.scales2
+  pub years : a.years ≡ b.years
 
 pub record SameResult (r s : Result) : Type 0 where
   pub answer : r.answer ≡ s.answer

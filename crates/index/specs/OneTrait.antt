@@ -51,6 +51,7 @@ with_codes a codes codes2 =
       alive = a.alive;
       codes2 = codes2;
       scales2 = a.scales2;
+      years = a.years;
     }
 
 -- code bytes with these bits 0

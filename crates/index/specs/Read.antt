@@ -14,7 +14,7 @@ use Rattle.index.specs.declared.Form.{Form}
 use Rattle.index.specs.Arrays.{Arrays, unmarked}
 use Rattle.index.specs.State.{Mark, unkeyed, keyed, Slot, State, capacity, record_of, overlay}
 use Rattle.index.specs.Fit.{between}
-use Rattle.index.specs.Form.{form_of, stages_at, table_size, stage_size, end_at}
+use Rattle.index.specs.Form.{form_of, stages_at, table_size, years_size, stage_size, end_at}
 use Rattle.index.specs.File.{magic}
 use Rattle.index.specs.Step.{first_of, when, rising}
 use Rattle.index.specs.Make.{Begun, begun_unless}
@@ -127,6 +127,13 @@ module _ (file : List ℕ) where
   abbrev pub table_length : ℕ
   table_length = table_size (form_in file) entry_count
 
+  -- what remains after the key table
+  abbrev pub years_in : List ℕ
+  years_in = drop table_length table_in
+
+  abbrev pub years_length : ℕ
+  years_length = years_size (form_in file) (count_in file)
+
   -- where the last block ends
   abbrev pub stated_end : ℕ
   stated_end = end_at (form_in file) (block_size (header_in file)) (count_in file) entry_count
@@ -138,12 +145,17 @@ module _ (file : List ℕ) where
   unfoldable pub entries_in : List KeyEntry
   entries_in = tab (entry_from table_in) entry_count
 
+  -- 02, Req 06: "Older files read as year 1 throughout."
+  abbrev pub year_in : (i : ℕ) → ℕ
+  year_in i = cond (form_in file).years (little_endian 2 (drop (i * 2) years_in)) 1
+
   unfoldable pub slot_in : (i : ℕ) → Slot
   slot_in i =
       let stage = stage_from (block_size (header_in file)) (count_in file) in
       record {
         mark = mark_from (key_from entries_in i);
         code = record { first = stage stages_in i; second = cond (form_in file).second (some (stage second_in i)) none };
+        year = year_in i;
       }
 
   -- "`compact` and reading restore rising order"
@@ -154,6 +166,7 @@ module _ (file : List ℕ) where
   state_in = record { header = header_in file; cascade = false; slots = slots_in }
 
   -- 01: "14, 15, 16, 17, 14 (width byte), 18, 20, 14 (first block), 17 for dim 0, 14 (rest), 19". 20 is "file dim over 4,096, count over 65,536 or over the lent arrays".
+  -- 02, Req 06: "A year block cut short is 14, with the rest."
   unfoldable pub read_refusal : Arrays → ℕ
   read_refusal a =
       first_of
@@ -162,7 +175,7 @@ module _ (file : List ℕ) where
       ∷ when (ltb (capacity (header_in file) a) (count_in file)) 20
       ∷ when (ltb (length stages_in) first_length) 14
       ∷ when (eqb (dim_in file) 0) 17
-      ∷ when (ltb (length second_in) second_length || ltb (length table_in) table_length) 14
+      ∷ when (ltb (length second_in) second_length || ltb (length table_in) table_length || ltb (length years_in) years_length) 14
       ∷ when (not (well_keyed (count_in file) (map (λ e. e.slot) entries_in))) 19
       ∷ [])
 

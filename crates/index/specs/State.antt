@@ -19,19 +19,21 @@ pub data Mark : Type 0 where
   dead unkeyed : ℕ → Mark
   keyed : ℕ → ℕ → Mark
 
+-- 02, Req 06: "Each slot gains a 16-bit year: 0 is kept for good, 1 is no duty, any other the first year in which it may go."
 pub record Slot : Type 0 where
   pub mark : Mark
   pub code : Code
+  pub year : ℕ
 
-abbrev pub new_slot : Mark → Code → Slot
-new_slot m c = record { mark = m; code = c }
+abbrev pub new_slot : Mark → Code → (year : ℕ) → Slot
+new_slot m c y = record { mark = m; code = c; year = y }
 
 -- a slot with another mark, and with another code: all else stays
 abbrev pub with_mark : Slot → Mark → Slot
-with_mark s m = new_slot m s.code
+with_mark s m = new_slot m s.code s.year
 
 abbrev pub with_code : Slot → Code → Slot
-with_code s c = new_slot s.mark c
+with_code s c = new_slot s.mark c s.year
 
 -- 01, "slots in use": dead ones included
 pub record State : Type 0 where
@@ -76,7 +78,7 @@ with_counts x n live on = record_with (header_of x) n live on
 -- How many slots each lent array of the index holds: "residual arrays only if residual" (01, 8).
 unfoldable pub rooms : Header → Arrays → List ℕ
 rooms h a =
-    length a.codes / block_size h ∷ length a.scales ∷ length a.keys ∷ length a.keyed ∷ length a.held ∷ length a.alive
+    length a.codes / block_size h ∷ length a.scales ∷ length a.keys ∷ length a.keyed ∷ length a.held ∷ length a.alive ∷ length a.years
     ∷ cond h.residual (length a.codes2 / block_size h ∷ length a.scales2 ∷ []) []
 
 unfoldable pub least : ℕ → List ℕ → ℕ
@@ -105,6 +107,7 @@ slot_at h a i =
             first = stage_at h a.scales a.codes i;
             second = cond h.residual (some (stage_at h a.scales2 a.codes2 i)) none;
           };
+      year = get_or a.years i 0;
     }
 
 unfoldable pub state_of : Index → Arrays → State
@@ -161,6 +164,7 @@ overlay a ss =
       alive = over (map (λ s. alive_of s.mark) ss) a.alive;
       codes2 = over (blocks_of (seconds ss)) a.codes2;
       scales2 = over (scales_of (seconds ss)) a.scales2;
+      years = over (map (λ s. s.year) ss) a.years;
     }
 
 -- A slot in its places, all others kept. Slots written so one after the other make an overlay (law `overlay-more`).
@@ -177,4 +181,5 @@ put_slot h a i s =
       alive = set a.alive i (alive_of s.mark);
       codes2 = elim s.code.second [ none ↦ a.codes2 | some e ↦ splice at e.block a.codes2 ];
       scales2 = elim s.code.second [ none ↦ a.scales2 | some e ↦ set a.scales2 i e.scale ];
+      years = set a.years i s.year;
     }

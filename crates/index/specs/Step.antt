@@ -9,20 +9,21 @@ use Rattle.score.specs.Order.{order_number}
 pub use Rattle.unit.specs.Brought.{Item, item_of, Query, query_of}
 use Rattle.encode.specs.declared.Header.{Header}
 use Rattle.encode.specs.Coded.{fault, no_spare, spare_of}
-use Rattle.index.specs.State.{Mark, dead, unkeyed, keyed, Slot, State, live, with_bits, new_slot, with_code, with_mark}
+use Rattle.index.specs.State.{Mark, dead, unkeyed, keyed, Slot, State, live, with_bits, new_slot, with_mark}
 use Rattle.index.specs.Codec.{encoded, score_of, distance}
 use Rattle.index.specs.File.{Entry, file_of}
 
 -- ---- calls and answers
 
--- `places` is how many places the lent results or the lent file have
+-- `places` is how many places the lent results or the lent file have. 02, Req 06: "Adding states a year"; "Removal and overwrite are told the present year".
 pub data Op : Type 0 where
   set_bits : (width : ℕ) → Op
-  add : Item → Op
-  add_keyed add_multi : (key : ℕ) → Item → Op
+  add : Item → (year : ℕ) → Op
+  add_keyed : (key : ℕ) → Item → (year present : ℕ) → Op
+  add_multi : (key : ℕ) → Item → (year : ℕ) → Op
   relabel : (old new : ℕ) → Op
-  remove : (key : ℕ) → Op
-  remove_at : (key slot : ℕ) → Op
+  remove : (key present : ℕ) → Op
+  remove_at : (key slot present : ℕ) → Op
   key_of : (slot : ℕ) → Op
   contains : (key : ℕ) → Op
   slot_of : (key position : ℕ) → Op
@@ -196,7 +197,7 @@ key_answer (some s) = key_of_mark s.mark
 -- ---- writing
 
 abbrev pub entry_of : Cell → Entry
-entry_of c = record { code = c.slot.code; key = key_of_mark c.slot.mark }
+entry_of c = record { code = c.slot.code; key = key_of_mark c.slot.mark; year = c.slot.year }
 
 abbrev pub file_bytes : Header → List Cell → List ℕ
 file_bytes h cs = file_of h (map entry_of cs)
@@ -228,8 +229,19 @@ abbrev pub position_of : (key : ℕ) → Option Slot → Option ℕ
 position_of j none = none
 position_of j (some s) = elim s.mark [ dead u ↦ none | unkeyed u ↦ none | keyed k p ↦ cond (eqb k j) (some p) none ]
 
-abbrev pub overwritten : Header → (key : ℕ) → Item → Slot → Slot
-overwritten h j v s = with_code s (cond (holds_at j 0 s.mark) (encoded h (spare_of h s.code) v) s.code)
+-- 02, Req 06: "an overwrite sets the new one", the year
+abbrev pub overwritten : Header → (key : ℕ) → Item → (year : ℕ) → Slot → Slot
+overwritten h j v y s =
+    let b = holds_at j 0 s.mark in
+    new_slot s.mark (cond b (encoded h (spare_of h s.code) v) s.code) (cond b y s.year)
+
+-- 02, Req 06: "has year 0, or a year above 1 that is past the present one"
+abbrev pub must_stay : (present year : ℕ) → Bool
+must_stay present y = eqb y 0 || (ltb 1 y && ltb present y)
+
+-- 21, "when a live slot that a removal would take or an overwrite would write" must stay, `taken` saying by its mark which slots these are. 01: a dead slot holds no key.
+unfoldable pub any_must_stay : (taken : Mark → Bool) → (present : ℕ) → List Slot → Bool
+any_must_stay taken present ss = any (λ s. taken s.mark && must_stay present s.year) ss
 
 -- rising held order: each key's slots hold 0, 1, 2 in slot order. `seen` says how many slots of each key came before.
 abbrev pub one_more : (key : ℕ) → (ℕ → ℕ) → ℕ → ℕ
@@ -267,12 +279,12 @@ guarded s zero o = o
 guarded s (suc n) o = answered s (refused (suc n))
 
 -- 01: "Every accepted add, overwrites too, ends it" (the cascade)
-unfoldable pub appended : (room : ℕ) → State → Mark → Item → Outcome
-appended room s m v =
+unfoldable pub appended : (room : ℕ) → State → Mark → Item → (year : ℕ) → Outcome
+appended room s m v y =
     let h = s.header in
     let n = length s.slots in
     guarded s (first_of (fault h v.vector ∷ when (leb room n) 8 ∷ []))
-    (record { state = with_slots s false (s.slots ++ (new_slot m (encoded h no_spare v) ∷ [])); answer = slot n })
+    (record { state = with_slots s false (s.slots ++ (new_slot m (encoded h no_spare v) y ∷ [])); answer = slot n })
 
 -- a change of every slot's mark: no, or a refusal, or yes
 unfoldable pub remarked : State → Bool → (refusal : ℕ) → (Mark → Mark) → Outcome
@@ -291,22 +303,27 @@ width_set s w =
 
 unfoldable pub step : (room : ℕ) → State → Op → Outcome
 step room s (set_bits w) = width_set s w
-step room s (add v) = appended room s (unkeyed 0) v
-step room s (add_keyed j v) =
+step room s (add v y) = appended room s (unkeyed 0) v y
+step room s (add_keyed j v y present) =
     let cs = live_from 0 s.slots in
     elim (slot_holding j 0 cs) [
-      | none ↦ appended room s (keyed j 0) v
-      | some i ↦ guarded s (fault s.header v.vector) (record { state = with_slots s false (map (overwritten s.header j v) s.slots); answer = slot i })
+      | none ↦ appended room s (keyed j 0) v y
+      | some i ↦
+          guarded s (first_of (fault s.header v.vector ∷ when (any_must_stay (holds_at j 0) present s.slots) 21 ∷ []))
+          (record { state = with_slots s false (map (overwritten s.header j v y) s.slots); answer = slot i })
     ]
-step room s (add_multi j v) = appended room s (keyed j (held_by j (live_from 0 s.slots))) v
+step room s (add_multi j v y) = appended room s (keyed j (held_by j (live_from 0 s.slots))) v y
 step room s (relabel j k) =
     let cs = live_from 0 s.slots in
     remarked s (is_held j cs && (eqb j k || not (is_held k cs))) 0 (relabelled j k)
-step room s (remove j) = remarked s (is_held j (live_from 0 s.slots)) 0 (removed j)
-step room s (remove_at j i) =
+step room s (remove j present) =
+    remarked s (is_held j (live_from 0 s.slots)) (when (any_must_stay (holds j) present s.slots) 21) (removed j)
+step room s (remove_at j i present) =
     elim (position_of j (get_elem? s.slots i)) [
       | none ↦ answered s (flag false)
-      | some gap ↦ remarked s true 0 (gap_filled j gap (held_by j (live_from 0 s.slots) - 1))
+      | some gap ↦
+          remarked s true (when (any_must_stay (holds_at j gap) present s.slots) 21)
+          (gap_filled j gap (held_by j (live_from 0 s.slots) - 1))
     ]
 step room s (key_of i) = answered s (maybe_key (key_answer (get_elem? s.slots i)))
 step room s (contains j) = answered s (flag (is_held j (live_from 0 s.slots)))

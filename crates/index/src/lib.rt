@@ -19,7 +19,7 @@ pub struct Index {
     pub cascade: bool,
 }
 
-// The eight arrays that a caller lends to be read (specs/Arrays.antt). They stay parallel arrays: C lends them so, and the index has no memory of its own.
+// The nine arrays that a caller lends to be read (specs/Arrays.antt). They stay parallel arrays: C lends them so, and the index has no memory of its own.
 #[derive(Clone, Copy)]
 pub struct Lent<'a> {
     pub codes: &'a [u8],
@@ -30,6 +30,7 @@ pub struct Lent<'a> {
     pub alive: &'a [u64],
     pub codes2: &'a [u8],
     pub scales2: &'a [u32],
+    pub years: &'a [u16],
 }
 
 // The same, lent to be changed.
@@ -43,6 +44,7 @@ pub struct LentMut<'a> {
     pub alive: &'a mut [u64],
     pub codes2: &'a mut [u8],
     pub scales2: &'a mut [u32],
+    pub years: &'a mut [u16],
 }
 
 impl LentMut<'_> {
@@ -59,6 +61,7 @@ impl LentMut<'_> {
             alive: &*self.alive,
             codes2: &*self.codes2,
             scales2: &*self.scales2,
+            years: &*self.years,
         }
     }
 }
@@ -71,7 +74,7 @@ pub struct Added {
 }
 
 // What a version of the byte form has: whether it is read, and whether there is a width byte, a second stage, a key table,
-// a working_dim field that counts. `known` is a flag, since the other fields have their values at an unknown version too, and `head_in` and `stages_in`
+// a working_dim field that counts, years. `known` is a flag, since the other fields have their values at an unknown version too, and `head_in` and `stages_in`
 // (header), whose promises hold of any file, read them.
 #[derive(Clone, Copy)]
 pub struct Form {
@@ -80,4 +83,5 @@ pub struct Form {
     pub second: bool,
     pub keys: bool,
     pub working: bool,
+    pub years: bool,
 }

@@ -69,9 +69,10 @@ pub extern "C" fn vecq_raw_key_of(
     alive: &[u64],
     codes2: &[u8],
     scales2: &[u32],
+    years: &[u16],
     slot: usize,
 ) -> u8
-    ensures { let a = lent codes.now scales.now keys.now keyed.now held.now alive.now codes2.now scales2.now in
+    ensures { let a = lent codes.now scales.now keys.now keyed.now held.now alive.now codes2.now scales2.now years.now in
         left result fields.now answer.new a ≡ left_by 2 (key_of slot) fields.now answer.old a }
 {
     let Some(index) = words::record_beside(fields, answer, 2) else {
@@ -86,6 +87,7 @@ pub extern "C" fn vecq_raw_key_of(
         alive,
         codes2,
         scales2,
+        years,
     };
     let keyed_as = keys::key_of(index, &arrays, slot);
     put_keyed(keyed_as, answer)
@@ -104,9 +106,10 @@ pub extern "C" fn vecq_raw_contains_key(
     alive: &[u64],
     codes2: &[u8],
     scales2: &[u32],
+    years: &[u16],
     key: u64,
 ) -> u8
-    ensures { let a = lent codes.now scales.now keys.now keyed.now held.now alive.now codes2.now scales2.now in
+    ensures { let a = lent codes.now scales.now keys.now keyed.now held.now alive.now codes2.now scales2.now years.now in
         left result fields.now answer.new a ≡ left_by 1 (contains key) fields.now answer.old a }
 {
     let Some(index) = words::record_beside(fields, answer, 1) else {
@@ -121,6 +124,7 @@ pub extern "C" fn vecq_raw_contains_key(
         alive,
         codes2,
         scales2,
+        years,
     };
     let contained = keys::contains_key(index, &arrays, key);
     put_asked(contained, answer)
@@ -139,10 +143,11 @@ pub extern "C" fn vecq_raw_slot_at(
     alive: &[u64],
     codes2: &[u8],
     scales2: &[u32],
+    years: &[u16],
     key: u64,
     position: usize,
 ) -> u8
-    ensures { let a = lent codes.now scales.now keys.now keyed.now held.now alive.now codes2.now scales2.now in
+    ensures { let a = lent codes.now scales.now keys.now keyed.now held.now alive.now codes2.now scales2.now years.now in
         left result fields.now answer.new a ≡ left_by 2 (slot_of key position) fields.now answer.old a }
 {
     let Some(index) = words::record_beside(fields, answer, 2) else {
@@ -157,6 +162,7 @@ pub extern "C" fn vecq_raw_slot_at(
         alive,
         codes2,
         scales2,
+        years,
     };
     let held_at = keys::slot_at(index, &arrays, key, position);
     put_held(held_at, answer)

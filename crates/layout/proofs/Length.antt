@@ -1,6 +1,6 @@
 -- The length of a file as a function of counts.
-use mathlib.Core.Path.{◌≡◌, refl, ap, ◌∙◌}
-use mathlib.Core.Bool.{Bool, true, false, cond}
+use mathlib.Core.Path.{◌≡◌, refl, ap, ap₂, ◌∙◌}
+use mathlib.Core.Bool.{Bool, true, false, not, cond}
 use mathlib.Core.List.{List, [], ◌∷◌, ◌++◌, map}
 use mathlib.Core.Option.{Option, none, some}
 use Prim.Native.Nat.{ℕ, suc, ◌+◌, ◌*◌}
@@ -17,8 +17,8 @@ use Rattle.encode.specs.declared.Header.{Header}
 use Rattle.encode.specs.Header.{block_size}
 use Rattle.lists.specs.Lists.{joined}
 use Rattle.index.specs.declared.Form.{Form}
-use Rattle.index.specs.Form.{form_of, stages_at, stage_size, second_at, keys_at, end_at}
-use Rattle.index.specs.File.{Entry, le_bytes, version_of, width_byte, head_bytes, stage_bytes, second_stages, key_entries, file_of}
+use Rattle.index.specs.Form.{form_of, stages_at, stage_size, years_size, second_at, keys_at, years_at, end_at}
+use Rattle.index.specs.File.{Entry, le_bytes, no_duty, version_of, width_byte, head_bytes, stage_bytes, second_stages, key_entries, year_bytes, file_of}
 use Rattle.index.specs.Sound.{Shaped, block_length}
 use Rattle.index.proofs.Blocks.{length-joined}
 
@@ -51,7 +51,7 @@ keyed-count i [] = refl
 keyed-count i (e ∷ es) = go e.key (keyed-count (suc i) es)
   where
     go : (o : Option ℕ) → length (key_entries (suc i) es) ≡ count (λ e. has_one e.key) es →
-        length (key_entries i (record { code = e.code; key = o } ∷ es)) ≡ bit (has_one o) + count (λ e. has_one e.key) es
+        length (key_entries i (record { code = e.code; key = o; year = e.year } ∷ es)) ≡ bit (has_one o) + count (λ e. has_one e.key) es
     go none ih = omega (arith, ih)
     go (some k) ih = omega (arith, ih)
 
@@ -60,7 +60,7 @@ unfolding key_entries
 entries-sized i [] = tt
 entries-sized i (e ∷ es) = go e.key (entries-sized (suc i) es)
   where
-    go : (o : Option ℕ) → Each (λ b. length b ≡ 12) (key_entries (suc i) es) → Each (λ b. length b ≡ 12) (key_entries i (record { code = e.code; key = o } ∷ es))
+    go : (o : Option ℕ) → Each (λ b. length b ≡ 12) (key_entries (suc i) es) → Each (λ b. length b ≡ 12) (key_entries i (record { code = e.code; key = o; year = e.year } ∷ es))
     go none h = h
     go (some k) h = (refl, h)
 
@@ -70,42 +70,71 @@ module _ (h : Header) (es : List Entry) where
   abbrev pub form : Form
   form = form_of (version_of h es)
 
-  -- whatever holds of the three versions
-  pub written-version : (P : ℕ → Type 0) → P 259 → P 260 → P 261 → P (version_of h es)
+  -- whatever holds of the six versions
+  pub written-version : (P : ℕ → Type 0) → P 259 → P 260 → P 261 → P 262 → P 263 → P 264 → P (version_of h es)
   unfolding version_of
-  written-version P four second width = go h.residual (eqb h.bits 4)
+  written-version P four second width four_years second_years width_years = go h.residual (eqb h.bits 4) (no_duty es)
     where
-      go : (b c : Bool) → P (cond b 260 (cond c 259 261))
-      go true c = second
-      go false true = four
-      go false false = width
+      go : (b c d : Bool) → P (cond b 260 (cond c 259 261) + cond (not d) 3 0)
+      go true c true = second
+      go true c false = second_years
+      go false true true = four
+      go false true false = four_years
+      go false false true = width
+      go false false false = width_years
 
   pub form-keys : form.keys ≡ true
   unfolding form_of
-  form-keys = written-version (λ v. (form_of v).keys ≡ true) refl refl refl
+  form-keys = written-version (λ v. (form_of v).keys ≡ true) refl refl refl refl refl refl
 
   pub form-working : form.working ≡ true
   unfolding form_of
-  form-working = written-version (λ v. (form_of v).working ≡ true) refl refl refl
+  form-working = written-version (λ v. (form_of v).working ≡ true) refl refl refl refl refl refl
 
   pub form-known : form.known ≡ true
   unfolding form_of
-  form-known = written-version (λ v. (form_of v).known ≡ true) refl refl refl
+  form-known = written-version (λ v. (form_of v).known ≡ true) refl refl refl refl refl refl
 
   pub form-second : form.second ≡ h.residual
   unfolding form_of version_of
-  form-second = go h.residual (eqb h.bits 4)
+  form-second = go h.residual (eqb h.bits 4) (no_duty es)
     where
-      go : (b c : Bool) → eqb (cond b 260 (cond c 259 261)) 260 ≡ b
-      go true c = refl
-      go false true = refl
-      go false false = refl
+      go : (b c d : Bool) → (form_of (cond b 260 (cond c 259 261) + cond (not d) 3 0)).second ≡ b
+      go true c true = refl
+      go true c false = refl
+      go false true true = refl
+      go false true false = refl
+      go false false true = refl
+      go false false false = refl
+
+  -- there are years where some entry has one other than 1
+  pub form-years : form.years ≡ not (no_duty es)
+  unfolding form_of version_of
+  form-years = go h.residual (eqb h.bits 4) (no_duty es)
+    where
+      go : (b c d : Bool) → (form_of (cond b 260 (cond c 259 261) + cond (not d) 3 0)).years ≡ not d
+      go true c true = refl
+      go true c false = refl
+      go false true true = refl
+      go false true false = refl
+      go false false true = refl
+      go false false false = refl
 
   width-length : length (width_byte (version_of h es) h) ≡ bit form.width
   width-length = go form.width
     where
       go : (b : Bool) → length (cond b (h.bits ∷ []) []) ≡ bit b
       go true = refl
+      go false = refl
+
+  years-length : length (year_bytes (version_of h es) es) ≡ years_size form (length es)
+  years-length = go form.years
+    where
+      go : (b : Bool) → length (cond b (joined (map (λ (e : Entry). le_bytes 2 e.year) es)) []) ≡ cond b (length es * 2) 0
+      go true =
+          length-joined 2 (map (λ (e : Entry). le_bytes 2 e.year) es)
+          (each_map (λ b. length b ≡ 2) (λ e. le_bytes 2 e.year) es (each-mem (λ e. length (le_bytes 2 e.year) ≡ 2) es (λ e m. refl)))
+          ∙ ap (λ (n : ℕ). n * 2) (length-map es (λ (e : Entry). le_bytes 2 e.year))
       go false = refl
 
 module _ (h : Header) where
@@ -171,14 +200,14 @@ module _ (h : Header) where
         go true s = stage-length (block_size h) (second_stages es) s.1 ∙ rw s.0
         go false s = stage-length (block_size h) (second_stages es) s.1 ∙ rw s.0 (omega (arith, zero-mul (block_size h)))
 
+    abbrev pub to_years : List ℕ
+    to_years = to_keys ++ le_bytes 4 (length (key_entries 0 es)) ++ joined (key_entries 0 es)
+
     pub keys-begin : length to_keys ≡ keys_at (form h es) (block_size h) (length es)
     keys-begin = length-append to_second (stage_bytes (second_stages es)) ∙ rw (second-begins, second-length)
 
-    -- ---- where the file ends
-
-    pub file-length : length (file_of h es) ≡ end_at (form h es) (block_size h) (length es) (count (λ e. has_one e.key) es)
-    unfolding file_of end_at
-    file-length =
+    pub years-begin : length to_years ≡ years_at (form h es) (block_size h) (length es) (count (λ e. has_one e.key) es)
+    years-begin =
         length-append (to_keys ++ le_bytes 4 (length (key_entries 0 es))) (joined (key_entries 0 es))
         ∙ rw (form-keys h es)
         (omega (
@@ -188,3 +217,9 @@ module _ (h : Header) where
           length-joined 12 (key_entries 0 es) (entries-sized 0 es),
           ap (λ (k : ℕ). k * 12) (keyed-count 0 es),
         ))
+
+    -- ---- where the file ends
+
+    pub file-length : length (file_of h es) ≡ end_at (form h es) (block_size h) (length es) (count (λ e. has_one e.key) es)
+    unfolding file_of end_at
+    file-length = length-append to_years (year_bytes (version_of h es) es) ∙ ap₂ ◌+◌ years-begin (years-length h es)

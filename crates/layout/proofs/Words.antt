@@ -1,10 +1,9 @@
 -- The counts of the slots of one word.
-use mathlib.Core.Path.{◌≡◌, refl, sym, ap, ◌∙◌}
+use mathlib.Core.Path.{◌≡◌, refl, sym, ap, ap₂, ◌∙◌}
 use mathlib.Core.Bool.{Bool, false, ◌&&◌, and-false}
-use mathlib.Core.List.{List, []}
-use Prim.Native.Nat.{ℕ, suc, ◌/◌, ◌%◌, ◌+◌, ◌-◌, ◌*◌, ◌^◌, ◌≤◌, ◌<◌, min}
+use mathlib.Core.List.{List}
+use Prim.Native.Nat.{ℕ, ◌/◌, ◌%◌, ◌+◌, ◌-◌, ◌*◌, ◌^◌, ◌≤◌, ◌<◌, min}
 use native.Mathlib.Nat.{mod-lt}
-use native.Mathlib.Numerals.{add-one}
 use native.Mathlib.Omega.{arith}
 use native.Mathlib.Decide.{dec_lt}
 use lib.ListN.{length, get_or, take, drop, length-drop, get_or-eq_default, drop_of_length-le}
@@ -21,17 +20,31 @@ use Rattle.digits.specs.Digits.{bit_of}
 use Rattle.marks.specs.Live.{marks_in, live_at}
 use Rattle.marks.specs.Word.{Lives, Spread, live_in}
 use Rattle.marks.proofs.Words.{bit-rest, bit-past, mark-at, bit-low, one-live}
-use Rattle.fit.proofs.Ones.{is_one, ones-bits, live_more, live-count}
+use Rattle.fit.proofs.Ones.{is_one, ones-bits}
 use Rattle.layout.specs.declared.Counts.{Counts}
-use Rattle.layout.specs.Counts.{word_keyed, entry_at, entry_in, entry_beside, counts_of}
+use Rattle.layout.specs.Counts.{of_word, is_dated, entry_at, dated_at, entry_beside, dated_beside, counts_in, counts_of, together, Summable}
 use Rattle.layout.proofs.Counting.{count-few}
 
--- a word's slots by the bytes of its bits
-pub entries-word : (keyed : List Bool) (w : ℕ) (bytes : List ℕ) → length keyed ≤ 64 → Spread w bytes
-    → count (entry_beside keyed bytes) (below (length keyed)) ≡ count (entry_in keyed w) (below 64)
-entries-word keyed w bytes few s =
-    count_below (entry_beside keyed bytes) (entry_in keyed w) (length keyed) (λ j l. ap (λ (b : Bool). b && get_or keyed j false) (s.each j (omega arith)))
-    ∙ sym (count_past (entry_in keyed w) (length keyed) (λ j l. ap (λ (b : Bool). live_in w j && b) (get_or-eq_default keyed false l) ∙ and-false (live_in w j)) 64 few)
+-- the ones of a word are its live slots
+ones-live : (w : ℕ) → w < 2 ^ 64 → ones w ≡ count (live_in w) (below 64)
+ones-live w l = ones-bits w 64 l ∙ count-tab is_one (live_in w) (bit_of w) (λ j. j) 64 (λ j. one-live (bit_of w j) (bit-low w j))
+
+-- a word's slots by the bytes of its bits: `has` says of a slot what is asked besides, and of none past the n-th
+module _ (has : ℕ → Bool) (w : ℕ) (bytes : List ℕ) (n : ℕ) (past : (j : ℕ) → n ≤ j → has j ≡ false) where
+  beside-word : n ≤ 64 → Spread w bytes → count (λ j. ltb 0 (get_or bytes j 0) && has j) (below n) ≡ count (λ j. live_in w j && has j) (below 64)
+  beside-word few s =
+      count_below (λ j. ltb 0 (get_or bytes j 0) && has j) (λ j. live_in w j && has j) n (λ j l. ap (λ (b : Bool). b && has j) (s.each j (omega arith)))
+      ∙ sym (count_past (λ j. live_in w j && has j) n (λ j l. ap (λ (b : Bool). live_in w j && b) (past j l) ∙ and-false (live_in w j)) 64 few)
+
+-- the counts of a word's slots
+pub word-counts : (keyed : List Bool) (years : List ℕ) (w : ℕ) (bytes : List ℕ) (live entries dated : ℕ) → w < 2 ^ 64 → length keyed ≤ 64 → length years ≤ 64 → Spread w bytes
+    → live ≡ ones w → entries ≡ count (entry_beside keyed bytes) (below (length keyed)) → dated ≡ count (dated_beside years bytes) (below (length years))
+    → record { live = live; keyed = entries; dated = dated } ≡ counts_in keyed years w
+unfolding counts_in
+word-counts keyed years w bytes live entries dated l k y s e f g =
+    let with_keys = f ∙ beside-word (λ j. get_or keyed j false) w bytes (length keyed) (λ j. get_or-eq_default keyed false) k s in
+    let with_years = g ∙ beside-word (λ j. is_dated (get_or years j 1)) w bytes (length years) (λ j m. ap is_dated (get_or-eq_default years 1 m)) y s in
+    λ i. record { live = (e ∙ ones-live w l) i; keyed = with_keys i; dated = with_years i }
 
 -- one word more
 word-more : (p q : ℕ → Bool) (i : ℕ) → ((j : ℕ) → j < 64 → p (i * 64 + j) ≡ q j) → count p (below ((i + 1) * 64)) ≡ count p (below (i * 64)) + count q (below 64)
@@ -58,85 +71,91 @@ module _ (w k : ℕ) where
   no-more : (j : ℕ) → k ≤ j → live_in (w % 2 ^ k) j ≡ false
   no-more j l = ap (ltb 0) (bit-past (w % 2 ^ k) k j (mod-lt w (pow_pos k)) l)
 
--- the ones of a word are its live slots
-pub ones-live : (w : ℕ) → w < 2 ^ 64 → ones w ≡ count (live_in w) (below 64)
-ones-live w l = ones-bits w 64 l ∙ count-tab is_one (live_in w) (bit_of w) (λ j. j) 64 (λ j. one-live (bit_of w j) (bit-low w j))
-
-pub few-keyed : (keyed : List Bool) (i : ℕ) → length (word_keyed keyed i) ≤ 64
-few-keyed keyed i = omega (arith, length-take 64 (drop (i * 64) keyed))
+pub few-of : {A : Type 0} (xs : List A) (i : ℕ) → length (of_word xs i) ≤ 64
+few-of xs i = omega (arith, length-take 64 (drop (i * 64) xs))
 
 -- by the part that is cut out
-pub keyed-cut : (keyed : List Bool) (i from to : ℕ) → from ≡ min (length keyed) (i * 64) → to ≡ min (length keyed) (from + 64) → take (to - from) (drop from keyed) ≡ word_keyed keyed i
-keyed-cut keyed i from to f t =
-    elim (dec_lt (i * 64) (length keyed)) [
+pub of-cut : {A : Type 0} (xs : List A) (i from to : ℕ) → from ≡ min (length xs) (i * 64) → to ≡ from + min (length xs - from) 64
+    → take (to - from) (drop from xs) ≡ of_word xs i
+of-cut xs i from to f t =
+    elim (dec_lt (i * 64) (length xs)) [
       | yes l ↦
           let e : from ≡ i * 64 = omega arith in
-          elim (dec_lt (from + 64) (length keyed)) [
-            | yes k ↦ ap (λ (m : ℕ). take m (drop from keyed)) {x = to - from} {y = 64} (omega arith) ∙ ap (λ (m : ℕ). take 64 (drop m keyed)) e
+          elim (dec_lt (from + 64) (length xs)) [
+            | yes k ↦ ap (λ (m : ℕ). take m (drop from xs)) {x = to - from} {y = 64} (omega arith) ∙ ap (λ (m : ℕ). take 64 (drop m xs)) e
             | no k ↦
-                let short : length (drop from keyed) ≤ to - from = rw (length-drop from keyed) (omega arith) in
-                take_all (to - from) (drop from keyed) short ∙ sym (take_all 64 (drop from keyed) (rw (length-drop from keyed) (omega arith)))
-                ∙ ap (λ (m : ℕ). take 64 (drop m keyed)) e
+                let short : length (drop from xs) ≤ to - from = rw (length-drop from xs) (omega arith) in
+                take_all (to - from) (drop from xs) short ∙ sym (take_all 64 (drop from xs) (rw (length-drop from xs) (omega arith)))
+                ∙ ap (λ (m : ℕ). take 64 (drop m xs)) e
           ]
       | no l ↦
-          let none : drop from keyed ≡ drop (i * 64) keyed = drop_of_length-le keyed (omega arith) ∙ sym (drop_of_length-le keyed (omega arith)) in
-          take_all (to - from) (drop from keyed) (rw (length-drop from keyed) (omega arith)) ∙ none
-          ∙ sym (take_all 64 (drop (i * 64) keyed) (rw (length-drop (i * 64) keyed) (omega arith)))
+          let none : drop from xs ≡ drop (i * 64) xs = drop_of_length-le xs (omega arith) ∙ sym (drop_of_length-le xs (omega arith)) in
+          take_all (to - from) (drop from xs) (rw (length-drop from xs) (omega arith)) ∙ none
+          ∙ sym (take_all 64 (drop (i * 64) xs) (rw (length-drop (i * 64) xs) (omega arith)))
     ]
 
+-- a slot of a word, where there is no other past the end than d
+slot-of : {A : Type 0} (xs : List A) (i : ℕ) (d : A) (j : ℕ) → j < 64 → get_or xs (i * 64 + j) d ≡ get_or (of_word xs i) j d
+slot-of xs i d j l = sym (get_or-take 64 (drop (i * 64) xs) j d l ∙ get_or-drop (i * 64) xs j d)
+
+-- `at` says of a slot what is asked besides, and `within` of a slot of the word
 module _ (ws : List ℕ) (i : ℕ) where
-  live-is : (j : ℕ) → j < 64 → live_at (marks_in ws) (i * 64 + j) ≡ live_in (get_or ws i 0) j
+  abbrev word : ℕ
+  word = get_or ws i 0
+
+  live-is : (j : ℕ) → j < 64 → live_at (marks_in ws) (i * 64 + j) ≡ live_in word j
   live-is j l = ap (ltb 0) (mark-at ws i j l)
 
-  pub live-word : get_or ws i 0 < 2 ^ 64 → count (live_at (marks_in ws)) (below ((i + 1) * 64)) ≡ count (live_at (marks_in ws)) (below (i * 64)) + ones (get_or ws i 0)
-  live-word l =
-      ap (λ (z : ℕ). count (live_at (marks_in ws)) (below (z * 64))) (add-one i)
-      ∙ omega (arith, live-count ws (suc i * 64), live-count ws (i * 64), live_more ws i l)
+  more : (at within : ℕ → Bool) → ((j : ℕ) → j < 64 → at (i * 64 + j) ≡ within j) → count (λ s. live_at (marks_in ws) s && at s) (below ((i + 1) * 64))
+      ≡ count (λ s. live_at (marks_in ws) s && at s) (below (i * 64)) + count (λ j. live_in word j && within j) (below 64)
+  more at within e =
+      word-more (λ s. live_at (marks_in ws) s && at s) (λ j. live_in word j && within j) i
+      (λ j l. ap (λ (b : Bool). b && at (i * 64 + j)) (live-is j l) ∙ ap (λ (b : Bool). live_in word j && b) (e j l))
 
-  module _ (keyed : List Bool) where
-    on : (j : ℕ) → j < 64 → get_or keyed (i * 64 + j) false ≡ get_or (word_keyed keyed i) j false
-    on j l = sym (get_or-take 64 (drop (i * 64) keyed) j false l ∙ get_or-drop (i * 64) keyed j false)
-
-    pub entries-more : count (entry_at keyed (marks_in ws)) (below ((i + 1) * 64))
-        ≡ count (entry_at keyed (marks_in ws)) (below (i * 64)) + count (entry_in (word_keyed keyed i) (get_or ws i 0)) (below 64)
-    entries-more =
-        word-more (entry_at keyed (marks_in ws)) (entry_in (word_keyed keyed i) (get_or ws i 0)) i
-        (λ j l. ap (λ (b : Bool). b && get_or keyed (i * 64 + j) false) (live-is j l) ∙ ap (λ (b : Bool). live_in (get_or ws i 0) j && b) (on j l))
+  pub counts-more : (keyed : List Bool) (years : List ℕ) (x y : Counts) → x ≡ counts_of keyed years (marks_in ws) (i * 64) → y ≡ counts_in (of_word keyed i) (of_word years i) word
+      → together x y ≡ counts_of keyed years (marks_in ws) ((i + 1) * 64)
+  unfolding counts_of counts_in
+  counts-more keyed years x y e f =
+      ap₂ together e f
+      ∙ λ t. record {
+        live = sym (word-more (live_at (marks_in ws)) (live_in word) i live-is) t;
+        keyed = sym (more (λ s. get_or keyed s false) (λ j. get_or (of_word keyed i) j false) (slot-of keyed i false)) t;
+        dated = sym (more (λ s. is_dated (get_or years s 1)) (λ j. is_dated (get_or (of_word years i) j 1)) (λ j l. ap is_dated (slot-of years i 1 j l))) t;
+      }
 
 -- the slots of the last word
-module _ (ms : List ℕ) (keyed : List Bool) (n w : ℕ) (lives : Lives ms (n / 64 * 64) w) where
-  abbrev pub last : ℕ
+module _ (ms : List ℕ) (n w : ℕ) (lives : Lives ms (n / 64 * 64) w) where
+  abbrev last : ℕ
   last = w % 2 ^ (n % 64)
 
   last-live : (j : ℕ) → j < n % 64 → live_at ms (n / 64 * 64 + j) ≡ live_in last j
   last-live j l = sym (low-live w (n % 64) j l ∙ lives.each j (omega arith))
 
-  pub live-last : last < 2 ^ 64 → count (live_at ms) (below n) ≡ count (live_at ms) (below (n / 64 * 64)) + ones last
-  live-last l =
-      part-word (live_at ms) (live_in last) n last-live (no-more w (n % 64))
-      ∙ ap (λ (m : ℕ). count (live_at ms) (below (n / 64 * 64)) + m) (sym (ones-live last l))
+  last-part : (at within : ℕ → Bool) → ((j : ℕ) → j < 64 → at (n / 64 * 64 + j) ≡ within j) → count (λ s. live_at ms s && at s) (below n)
+      ≡ count (λ s. live_at ms s && at s) (below (n / 64 * 64)) + count (λ j. live_in last j && within j) (below 64)
+  last-part at within e =
+      part-word (λ s. live_at ms s && at s) (λ j. live_in last j && within j) n
+      (λ j l. ap (λ (b : Bool). b && at (n / 64 * 64 + j)) (last-live j l) ∙ ap (λ (b : Bool). live_in last j && b) (e j (omega arith)))
+      (λ j l. ap (λ (b : Bool). b && within j) (no-more w (n % 64) j l))
 
-  pub entries-last : count (entry_at keyed ms) (below n) ≡ count (entry_at keyed ms) (below (n / 64 * 64)) + count (entry_in (word_keyed keyed (n / 64)) last) (below 64)
-  entries-last =
-      let part : List Bool = word_keyed keyed (n / 64) in
-      part-word (entry_at keyed ms) (entry_in part last) n
-      (λ j l. ap (λ (b : Bool). b && get_or keyed (n / 64 * 64 + j) false) (last-live j l)
-      ∙ ap (λ (b : Bool). live_in last j && b) (on [] (n / 64) keyed j (omega arith)))
-      (λ j l. ap (λ (b : Bool). b && get_or part j false) (no-more w (n % 64) j l))
+  pub counts-last : (keyed : List Bool) (years : List ℕ) (x y : Counts) → x ≡ counts_of keyed years ms (n / 64 * 64)
+      → y ≡ counts_in (of_word keyed (n / 64)) (of_word years (n / 64)) last → together x y ≡ counts_of keyed years ms n
+  unfolding counts_of counts_in
+  counts-last keyed years x y e f =
+      let i : ℕ = n / 64 in
+      ap₂ together e f
+      ∙ λ t. record {
+        live = sym (part-word (live_at ms) (live_in last) n last-live (no-more w (n % 64))) t;
+        keyed = sym (last-part (λ s. get_or keyed s false) (λ j. get_or (of_word keyed i) j false) (slot-of keyed i false)) t;
+        dated = sym (last-part (λ s. is_dated (get_or years s 1)) (λ j. is_dated (get_or (of_word years i) j 1)) (λ j l. ap is_dated (slot-of years i 1 j l))) t;
+      }
 
-  -- both counts
-  pub counts-last : (first : Counts) (word many : ℕ) (part : List Bool) → first ≡ counts_of keyed ms (n / 64 * 64) → word ≡ last → word < 2 ^ 64
-      → part ≡ word_keyed keyed (n / 64) → many ≡ count (entry_in part word) (below 64)
-      → record { live = first.live + ones word; keyed = first.keyed + many } ≡ counts_of keyed ms n
-  unfolding counts_of
-  counts-last first word many part e d l f m =
-      let live : first.live + ones word ≡ count (live_at ms) (below n) =
-      omega (arith, ap (λ (x : Counts). x.live) e, ap ones d, live-last (rw d at l)) in
-      let entries : first.keyed + many ≡ count (entry_at keyed ms) (below n) =
-      omega (arith, ap (λ (x : Counts). x.keyed) e, rw (d, f) at m, entries-last) in
-      λ j. record { live = live j; keyed = entries j }
-
-pub few-counts : (keyed : List Bool) (ms : List ℕ) (n : ℕ) (counts : Counts) → counts ≡ counts_of keyed ms n → (counts.live ≤ n) × (counts.keyed ≤ n)
+-- counts that are those of n slots together can be added
+pub summable : (keyed : List Bool) (years ms : List ℕ) (n : ℕ) (x y : Counts) → together x y ≡ counts_of keyed years ms n → n < 2 ^ 64 → Summable x y
 unfolding counts_of
-few-counts keyed ms n counts e =
-    (omega (arith, ap (λ (x : Counts). x.live) e, count-few (live_at ms) n), omega (arith, ap (λ (x : Counts). x.keyed) e, count-few (entry_at keyed ms) n))
+summable keyed years ms n x y e l =
+    record {
+      live = omega (arith, ap (λ (z : Counts). z.live) e, count-few (live_at ms) n, l);
+      keyed = omega (arith, ap (λ (z : Counts). z.keyed) e, count-few (entry_at keyed ms) n, l);
+      dated = omega (arith, ap (λ (z : Counts). z.dated) e, count-few (dated_at years ms) n, l);
+    }

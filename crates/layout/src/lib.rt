@@ -11,18 +11,19 @@ ghost use Rattle.index.specs.Step.{file_length};
 ghost use Rattle.index.specs.Call.{call};
 ghost use Rattle.index.specs.Answers.{result_of, length_is};
 ghost use Rattle.marks.specs.Live.{marks_in};
-ghost use Rattle.layout.specs.Counts.{word_keyed, entry_at, entry_in, entry_beside, counts_of};
+ghost use Rattle.layout.specs.Counts.{of_word, entry_at, entry_beside, dated_beside, counts_in, counts_of, Summable, together};
 
 use index::{Index, Lent};
 use refusal::Refusal;
 
 // ---- counts
 
-// How many slots are live, and how many of these have a key.
+// How many slots are live, how many of these have a key, and of how many the year is not 1.
 #[derive(Drop)]
 pub struct Counts {
     pub live: usize,
     pub keyed: usize,
+    pub dated: usize,
 }
 
 // Whether a slot has a key entry: it is live and has a key.
@@ -45,39 +46,69 @@ fn entries_beside(keyed: &[bool], bits: &[u8]) -> u8
     many
 }
 
-// The same by the word.
-fn word_entries(keyed: &[bool], word: u64) -> u8
-    requires { length keyed.now ≤ 64 }
-    ensures { result ≡ count (entry_in keyed.now word) (below 64) }
+// How many of the slots of a word are live with a year other than 1, likewise.
+fn dates_beside(years: &[u16], bits: &[u8]) -> u8
+    requires { (length years.now ≤ 64) × (length years.now ≤ length bits.now) }
+    ensures { result ≡ count (dated_beside years.now bits.now) (below (length years.now)) }
 {
-    entries_beside(keyed, &marks::spread(word))
-}
-
-// What `keyed` has of the slots of word i.
-fn keyed_of_word(keyed: &[bool], i: usize) -> &[bool]
-    requires { i * 64 < 2 ^ 64 }
-    ensures { result.now ≡ word_keyed keyed.now i }
-{
-    let from = keyed.len().min(i * 64);
-    let to = keyed.len().min(from + 64);
-    &keyed[from..to]
-}
-
-// Both counts of the slots of the first words. By word: `keyed` and `alive` are both read at it, and `keyed` may be the shorter.
-fn count_words(keyed: &[bool], alive: &[u64], whole: usize) -> Counts
-    requires { (whole ≤ length alive.now) × (whole * 64 < 2 ^ 64) }
-    ensures { result ≡ counts_of keyed.now (marks_in alive.now) (whole * 64) }
-{
-    let mut live = 0;
-    let mut keyed_live = 0;
-    for i in 0..whole {
-        live += alive[i].count_ones() as usize;
-        keyed_live += word_entries(keyed_of_word(keyed, i), alive[i]) as usize;
+    let mut many: u8 = 0;
+    for (j, year) in years.iter().enumerate() {
+        many += ((bits[j] > 0) & (*year != 1)) as u8;
     }
+    many
+}
+
+// The counts of the slots of one word.
+fn count_word(keyed: &[bool], years: &[u16], word: u64) -> Counts
+    requires { (length keyed.now ≤ 64) × (length years.now ≤ 64) }
+    ensures { result ≡ counts_in keyed.now years.now word }
+{
+    let bits = marks::spread(word);
     Counts {
-        live,
-        keyed: keyed_live,
+        live: word.count_ones() as usize,
+        keyed: entries_beside(keyed, &bits) as usize,
+        dated: dates_beside(years, &bits) as usize,
     }
+}
+
+// What an array has of the slots of word i.
+fn of_word<T>(xs: &[T], i: usize) -> &[T]
+    requires { i * 64 < 2 ^ 64 }
+    ensures { result.now ≡ of_word xs.now i }
+{
+    let from = xs.len().min(i * 64);
+    let to = from + (xs.len() - from).min(64);
+    &xs[from..to]
+}
+
+// The counts of some slots and of others together.
+fn together(some: Counts, others: Counts) -> Counts
+    requires { Summable some others }
+    ensures { result ≡ together some others }
+{
+    Counts {
+        live: some.live + others.live,
+        keyed: some.keyed + others.keyed,
+        dated: some.dated + others.dated,
+    }
+}
+
+// The counts of the slots of the first words. By word: `keyed`, `years` and `alive` are all read at it, and `keyed` and `years` may be shorter.
+fn count_words(keyed: &[bool], years: &[u16], alive: &[u64], whole: usize) -> Counts
+    requires { (whole ≤ length alive.now) × (whole * 64 < 2 ^ 64) }
+    ensures { result ≡ counts_of keyed.now years.now (marks_in alive.now) (whole * 64) }
+{
+    let mut counts = Counts {
+        live: 0,
+        keyed: 0,
+        dated: 0,
+    };
+    for i in 0..whole {
+        let word = count_word(of_word(keyed, i), of_word(years, i), alive[i]);
+        let next = together(counts, word);
+        counts = next;
+    }
+    counts
 }
 
 // The first k bits of a word.
@@ -88,19 +119,17 @@ fn first_bits(word: u64, k: usize) -> u64
     word % (1u64 << k)
 }
 
-// Both counts of the first n slots, word by word, the last one by the bits that are left. Either of `keyed` and `alive` may be the shorter: past the last word
-// of `alive` all slots are dead.
-pub fn count_slots(keyed: &[bool], alive: &[u64], n: usize) -> Counts
-    ensures { result ≡ counts_of keyed.now (marks_in alive.now) n }
+// The counts of the first n slots, word by word, the last one by the bits that are left. Each of `keyed`, `years` and `alive` may be the shortest: past the last
+// word of `alive` all slots are dead.
+pub fn count_slots(keyed: &[bool], years: &[u16], alive: &[u64], n: usize) -> Counts
+    ensures { result ≡ counts_of keyed.now years.now (marks_in alive.now) n }
 {
     let slots = n.min(alive.len().saturating_mul(64));
     let whole = slots / 64;
-    let first = count_words(keyed, alive, whole);
+    let first = count_words(keyed, years, alive, whole);
     let word = first_bits(marks::word_at(alive, whole), slots % 64);
-    Counts {
-        live: first.live + word.count_ones() as usize,
-        keyed: first.keyed + word_entries(keyed_of_word(keyed, whole), word) as usize,
-    }
+    let last = count_word(of_word(keyed, whole), of_word(years, whole), word);
+    together(first, last)
 }
 
 // ---- the length of an index's file
@@ -114,7 +143,9 @@ fn length_of(version: u16, block: usize, counts: Counts) -> usize
     let form = form::form_of(version);
     let stage = form::stage_size(block as u16, counts.live as u32);
     let second = if form.second { stage } else { 0 };
-    form::stages_at(form) + stage + second + form::table_size(form, counts.keyed as u32)
+    let table = form::table_size(form, counts.keyed as u32);
+    let years = form::years_size(form, counts.live as u32);
+    form::stages_at(form) + stage + second + table + years
 }
 
 // How many bytes the file of the index has. Refusal: 13.
@@ -123,6 +154,7 @@ pub fn file_length(index: Index, arrays: &Lent<'_>) -> Result<usize, Refusal>
         result_of index a (length_is (verdict result)) ≡ call index a file_length }
 {
     fit::check(index, arrays)?;
-    let counts = count_slots(arrays.keyed, arrays.alive, index.n);
-    Ok(length_of(form::version_of(index), room::block_size(index), counts))
+    let counts = count_slots(arrays.keyed, arrays.years, arrays.alive, index.n);
+    let version = form::version_with(index, counts.dated > 0);
+    Ok(length_of(version, room::block_size(index), counts))
 }

@@ -22,9 +22,9 @@ unfolding room
 flags-room = length-replicate {A = Bool} 1024 false
 
 pub as-large : (a : Arrays) → length a.codes ≡ 32768 → length a.scales ≡ 1024 → length a.keys ≡ 1024 → length a.keyed ≡ 1024 → length a.held ≡ 1024
-    → length a.alive ≡ 1024 → length a.codes2 ≡ 32768 → length a.scales2 ≡ 1024 → SameLengths a room
+    → length a.alive ≡ 1024 → length a.codes2 ≡ 32768 → length a.scales2 ≡ 1024 → length a.years ≡ 1024 → SameLengths a room
 unfolding room
-as-large a codes scales keys flags held alive codes2 scales2 =
+as-large a codes scales keys flags held alive codes2 scales2 years =
     record {
       codes = codes ∙ sym bytes-room;
       scales = scales ∙ sym slots-room;
@@ -34,6 +34,7 @@ as-large a codes scales keys flags held alive codes2 scales2 =
       alive = alive ∙ sym slots-room;
       codes2 = codes2 ∙ sym bytes-room;
       scales2 = scales2 ∙ sym slots-room;
+      years = years ∙ sym slots-room;
     }
 
 -- only room counts

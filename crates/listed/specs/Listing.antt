@@ -15,7 +15,17 @@ unfoldable pub room : Arrays
 room =
     let slots = replicate {A = ℕ} 1024 0 in
     let bytes = replicate {A = ℕ} 32768 0 in
-    record { codes = bytes; scales = slots; keys = slots; keyed = replicate 1024 false; held = slots; alive = slots; codes2 = bytes; scales2 = slots }
+    record {
+      codes = bytes;
+      scales = slots;
+      keys = slots;
+      keyed = replicate 1024 false;
+      held = slots;
+      alive = slots;
+      codes2 = bytes;
+      scales2 = slots;
+      years = slots;
+    }
 
 -- "a count past either is 20, and so is a file over 65,536 bytes that passes the tests before 20"; 0 for none
 unfoldable pub listing_refusal : (file : List ℕ) → ℕ

@@ -46,11 +46,11 @@ verdict-number (Err r) = refl
 
 -- the arrays of read_keys are as large as a listing's
 pub as-lent : (words : List ℕ) (flags : List Bool) → length words ≡ 1024 → length flags ≡ 1024 →
-    SameLengths (lent (replicate 32768 0) (replicate 1024 0) words flags (replicate 1024 0) (replicate 16 0) (replicate 32768 0) (replicate 1024 0)) room
+    SameLengths (lent (replicate 32768 0) (replicate 1024 0) words flags (replicate 1024 0) (replicate 16 0) (replicate 32768 0) (replicate 1024 0) (replicate 1024 0)) room
 as-lent words flags w f =
     let bytes = length-replicate {A = ℕ} 32768 0 in
     let slots = length-replicate {A = ℕ} 1024 0 in
-    as-large _ bytes slots w f slots (omega (arith, length-marks (replicate {A = ℕ} 16 0), length-replicate {A = ℕ} 16 0)) bytes slots
+    as-large _ bytes slots w f slots (omega (arith, length-marks (replicate {A = ℕ} 16 0), length-replicate {A = ℕ} 16 0)) bytes slots slots
 
 module _ (file : List ℕ) (a : Arrays) where
   marks-read : {B : Type 0} (g : Mark → B) → ((k p q : ℕ) → g (keyed k p) ≡ g (keyed k q)) → (xs : List B) (i : ℕ) (d : B) → i < count_in file

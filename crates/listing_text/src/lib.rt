@@ -6,8 +6,8 @@
 //
 //   SLOT KEY HALF
 //
-// with the key in decimal, `-` where there is none, and the first scale as a half in four digits of upper-case hexadecimal. The text of a refused
-// file is its number alone.
+// with the key in decimal, `-` where there is none, and the first scale as a half in four digits of upper-case hexadecimal. Of years nothing is put.
+// The text of a refused file is its number alone.
 #![tactic(auto)]
 
 ghost use Rattle.std.specs.Prelude.{◌≡◌, [], ◌∷◌, ◌++◌, ℕ, ◌%◌, ◌≤◌, ◌<◌, length};
@@ -38,6 +38,7 @@ fn read_keys(keys: &mut [u64], keyed: &mut [bool], file: &[u8]) -> Result<(), Re
     let mut alive = [0u64; 16];
     let mut codes2 = [0u8; 32768];
     let mut scales2 = [0u32; 1024];
+    let mut years = [0u16; 1024];
     let mut arrays = LentMut {
         codes: &mut codes,
         scales: &mut scales,
@@ -47,6 +48,7 @@ fn read_keys(keys: &mut [u64], keyed: &mut [bool], file: &[u8]) -> Result<(), Re
         alive: &mut alive,
         codes2: &mut codes2,
         scales2: &mut scales2,
+        years: &mut years,
     };
     read::from_bytes(&mut arrays, file)?;
     Ok(())

@@ -1,16 +1,19 @@
 -- One place of a tabulation changed, the entries of a list of known length, an entry that may not be there, and the entries of two lists zipped.
-use mathlib.Core.Path.{◌≡◌, refl, sym, ap, ◌∙◌}
+use mathlib.Core.Path.{◌≡◌, refl, sym, ap, subst, ◌∙◌}
 use mathlib.Core.Logic.{◌≢◌}
-use mathlib.Core.List.{List, [], ◌∷◌, map}
+use mathlib.Core.Bool.{Bool, true, false, cond}
+use mathlib.Core.List.{List, [], ◌∷◌, ◌++◌, map}
 use mathlib.Core.Option
 use mathlib.Core.Option.{none, some}
 use Prim.Native.Nat.{ℕ, zero, suc, ◌+◌, ◌-◌, ◌≤◌, ◌<◌}
-use native.Mathlib.Nat.{not-suc-le-zero, le_of_suc-le-suc}
+use native.Mathlib.Nat.{not-suc-le-zero, le_of_suc-le-suc, zero-add}
+use native.Mathlib.Numerals.{one-add}
 use native.Mathlib.Decide.{ℕ_discrete, dec_lt}
 use native.Mathlib.Omega.{arith}
-use lib.ListN.{length, drop, get_or, get_elem?, set, length-set}
+use lib.ListN.{length, take, drop, get_or, get_elem?, set, length-set}
 use lib.Seq.{get_or-set_same, get_or-set_other, get_or-drop, ext_get_or}
 use Rattle.lists.specs.Lists.{tab, zip_with}
+use Rattle.lists.specs.Keep.{Each, bit, keep, count}
 use Rattle.lists.proofs.Laws.{length-tab, get_or-tab, tab-get_or}
 
 module _ {A : Type 0} where
@@ -60,6 +63,34 @@ pub elem-map : {A B : Type 0} (f : A → B) (xs : List A) (i : ℕ) → get_elem
 elem-map f [] i = refl
 elem-map f (x ∷ xs) zero = refl
 elem-map f (x ∷ xs) (suc i) = elem-map f xs i
+
+-- ---- an entry that is there
+
+module _ {X : Type 0} where
+  pub each-elem : (P : X → Type 0) (xs : List X) (i : ℕ) (x : X) → get_elem? xs i ≡ some x → Each P xs → P x
+  each-elem P [] i x e h = absurd (let z : ◌≡◌ {A = ℕ} 0 1 = cc in omega arith)
+  each-elem P (y ∷ ys) zero x e h = let f : y ≡ x = cc in subst P f h.0
+  each-elem P (y ∷ ys) (suc i) x e h = each-elem P ys i x e h.1
+
+  pub elem-append : (xs ys : List X) (i : ℕ) (x : X) → get_elem? xs i ≡ some x → get_elem? (xs ++ ys) i ≡ some x
+  elem-append [] ys i x e = absurd (let z : ◌≡◌ {A = ℕ} 0 1 = cc in omega arith)
+  elem-append (z ∷ zs) ys zero x e = e
+  elem-append (z ∷ zs) ys (suc i) x e = elem-append zs ys i x e
+
+  -- an entry that is kept stands after those before it that are kept
+  pub elem-keep : (p : X → Bool) (xs : List X) (i : ℕ) (x : X) → get_elem? xs i ≡ some x → p x ≡ true → get_elem? (keep p xs) (count p (take i xs)) ≡ some x
+  elem-keep p [] i x e t = absurd (let z : ◌≡◌ {A = ℕ} 0 1 = cc in omega arith)
+  elem-keep p (y ∷ ys) zero x e t = let f : y ≡ x = cc in rw (f, t)
+  elem-keep p (y ∷ ys) (suc i) x e t = go (p y) (elem-keep p ys i x e t)
+    where
+      go : (b : Bool) → get_elem? (keep p ys) (count p (take i ys)) ≡ some x → get_elem? (cond b (y ∷ keep p ys) (keep p ys)) (bit b + count p (take i ys)) ≡ some x
+      go true ih = rw (one-add (count p (take i ys))) ih
+      go false ih = rw (zero-add (count p (take i ys))) ih
+
+  pub elem-below : (xs : List X) (i : ℕ) (x : X) → get_elem? xs i ≡ some x → i < length xs
+  elem-below [] i x e = absurd (let z : ◌≡◌ {A = ℕ} 0 1 = cc in omega arith)
+  elem-below (y ∷ ys) zero x e = omega arith
+  elem-below (y ∷ ys) (suc i) x e = omega (arith, elem-below ys i x e)
 
 -- ---- two lists zipped
 

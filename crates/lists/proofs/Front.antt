@@ -8,7 +8,7 @@ use native.Mathlib.Nat.{sub-zero, eq-or-lt_of_le, le_of_suc-le-suc}
 use native.Mathlib.Omega.{arith}
 use native.Mathlib.Decide.{dec_lt}
 use lib.ListN.{length, get_or, set, take, drop, length-append, get_or-append, take-append-drop}
-use lib.Seq.{ext_get_or, get_or-drop, get_or-append-add, length-take-le, take_at, drop_at, drop-append-add, drop-drop, sets-eq, length-sets}
+use lib.Seq.{ext_get_or, get_or-drop, get_or-append-add, length-take-le, take_at, drop_at, drop-append-add, drop-drop, sets-eq}
 use Rattle.lists.specs.Lists.{tab, over, splice, below}
 use Rattle.lists.specs.Keep.{bit, keep, count, Each}
 use Rattle.lists.proofs.Laws.{length-tab, get_or-tab, tab-get_or, tab-ext, tab-append, length_over}

@@ -24,6 +24,11 @@ module _ {X : Type 0} where
       go true f e ih = absurd (subst T e tt)
       go false f e ih = (f, ih e)
 
+  pub any_false : (p : X → Bool) (xs : List X) → Each (λ x. p x ≡ false) xs → any p xs ≡ false
+  unfolding any
+  any_false p [] h = refl
+  any_false p (x ∷ xs) h = rw (h.0, any_false p xs h.1)
+
   pub any-mem : (p : X → Bool) {x : X} {xs : List X} → Memᴰ x xs → p x ≡ true → any p xs ≡ true
   unfolding any
   any-mem p (Memᴰ.head {xs = ys} e) t = rw (sym (ap p e) ∙ t)

@@ -12,7 +12,7 @@ use Rattle.std.proofs.lemmas.Bool.{or_parts}
 use Rattle.std.proofs.lemmas.List.Folds.{list_any-append}
 use Rattle.std.proofs.lemmas.List.FromFn.{length-map-range_with_len, length-range_with_len, get_or-range_with_len}
 use Rattle.lists.specs.Lists.{tab, over, below}
-use Rattle.lists.specs.Keep.{Each}
+use Rattle.lists.specs.Keep.{Each, any}
 use Rattle.lists.proofs.Laws.{length-tab}
 use Rattle.lists.proofs.Keep.{sets-append}
 use Rattle.lists.proofs.Front.{map-tab, tab-is}
@@ -49,6 +49,12 @@ module _ (a m b k n : ℕ) (e : a + m ≡ b) (f : m + k ≡ n) where
 pub sets_front : {A : Type 0} (f : ℕ → A) (n : ℕ) (xs : List A) → n ≤ length xs → sets xs 0 (map f (range_with_len 0 n)) ≡ over (tab f n) xs
 unfolding over
 sets_front f n xs h = rw (range-below n, map-tab f (λ i. i) n, ← zero-add (length (tab f n))) (sets-eq (tab f n) xs 0 (omega (arith, length-tab f n)))
+
+-- the library's test of some entry
+pub list-any : {X : Type 0} (p : X → Bool) (xs : List X) → list_any p xs ≡ any p xs
+unfolding any
+list-any p [] = refl
+list-any p (x ∷ xs) = ap (λ (b : Bool). p x || b) (list-any p xs)
 
 pub none_any : (p : ℕ → Bool) (is : List ℕ) → list_any p is ≡ false → Each (λ i. p i ≡ false) is
 none_any p [] e = tt

@@ -45,7 +45,7 @@ module _ (h : Header) (a : Arrays) where
 -- the arrays with other marks
 abbrev with_alive : Arrays → List ℕ → Arrays
 with_alive a ms =
-    record { codes = a.codes; scales = a.scales; keys = a.keys; keyed = a.keyed; held = a.held; alive = ms; codes2 = a.codes2; scales2 = a.scales2 }
+    record { codes = a.codes; scales = a.scales; keys = a.keys; keyed = a.keyed; held = a.held; alive = ms; codes2 = a.codes2; scales2 = a.scales2; years = a.years }
 
 pub unmarked-are : (a : Arrays) (ms : List ℕ) → ms ≡ no_marks a.alive → with_alive a ms ≡ unmarked a
 unmarked-are a ms e = ap (with_alive a) e

@@ -30,12 +30,13 @@ pub extern "C" fn vecq_raw_new(
     alive: &mut [u64],
     codes2: &mut [u8],
     scales2: &mut [u32],
+    years: &mut [u16],
     dim: usize,
     seed: u64,
 ) -> u8
-    ensures { let a = lent codes.old scales.old keys.old keyed.old held.old alive.old codes2.old scales2.old in
+    ensures { let a = lent codes.old scales.old keys.old keyed.old held.old alive.old codes2.old scales2.old years.old in
         left result fields.new []
-        (lent codes.new scales.new keys.new keyed.new held.new alive.new codes2.new scales2.new)
+        (lent codes.new scales.new keys.new keyed.new held.new alive.new codes2.new scales2.new years.new)
         ≡ begins (make (new_header dim dim seed false) a) fields.old a }
 {
     let mut arrays = LentMut {
@@ -47,6 +48,7 @@ pub extern "C" fn vecq_raw_new(
         alive,
         codes2,
         scales2,
+        years,
     };
     if fields.len() < words::RECORD_WORDS {
         let check = make::check(dim, dim, seed, false, &arrays.view());
@@ -67,13 +69,14 @@ pub extern "C" fn vecq_raw_with_working_dim(
     alive: &mut [u64],
     codes2: &mut [u8],
     scales2: &mut [u32],
+    years: &mut [u16],
     dim: usize,
     working_dim: usize,
     seed: u64,
 ) -> u8
-    ensures { let a = lent codes.old scales.old keys.old keyed.old held.old alive.old codes2.old scales2.old in
+    ensures { let a = lent codes.old scales.old keys.old keyed.old held.old alive.old codes2.old scales2.old years.old in
         left result fields.new []
-        (lent codes.new scales.new keys.new keyed.new held.new alive.new codes2.new scales2.new)
+        (lent codes.new scales.new keys.new keyed.new held.new alive.new codes2.new scales2.new years.new)
         ≡ begins (make (new_header dim working_dim seed false) a) fields.old a }
 {
     let mut arrays = LentMut {
@@ -85,6 +88,7 @@ pub extern "C" fn vecq_raw_with_working_dim(
         alive,
         codes2,
         scales2,
+        years,
     };
     if fields.len() < words::RECORD_WORDS {
         let check = make::check(dim, working_dim, seed, false, &arrays.view());
@@ -105,12 +109,13 @@ pub extern "C" fn vecq_raw_with_residual(
     alive: &mut [u64],
     codes2: &mut [u8],
     scales2: &mut [u32],
+    years: &mut [u16],
     dim: usize,
     seed: u64,
 ) -> u8
-    ensures { let a = lent codes.old scales.old keys.old keyed.old held.old alive.old codes2.old scales2.old in
+    ensures { let a = lent codes.old scales.old keys.old keyed.old held.old alive.old codes2.old scales2.old years.old in
         left result fields.new []
-        (lent codes.new scales.new keys.new keyed.new held.new alive.new codes2.new scales2.new)
+        (lent codes.new scales.new keys.new keyed.new held.new alive.new codes2.new scales2.new years.new)
         ≡ begins (make (new_header dim dim seed true) a) fields.old a }
 {
     let mut arrays = LentMut {
@@ -122,6 +127,7 @@ pub extern "C" fn vecq_raw_with_residual(
         alive,
         codes2,
         scales2,
+        years,
     };
     if fields.len() < words::RECORD_WORDS {
         let check = make::check(dim, dim, seed, true, &arrays.view());

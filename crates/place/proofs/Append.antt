@@ -6,6 +6,7 @@ use Rattle.std.specs.Prelude.{Option, Some, None}
 use Prim.Native.Nat.{ℕ, zero, suc, ◌+◌, ◌<◌}
 use native.Mathlib.Omega.{arith}
 use lib.Dec.{leb}
+use borrow.Author.Tests.{le-ltb}
 use lib.ListN.{length, length-append}
 use Rattle.lists.specs.Lists.{tab}
 use Rattle.lists.specs.Keep.{bit, count}
@@ -25,8 +26,9 @@ use Rattle.index.proofs.Encoded.{encoded-shaped}
 use Rattle.index.proofs.Fits.{overlay-self, record-self, fit-sound}
 use Rattle.index.proofs.Places.{overlay-more}
 use Rattle.place.specs.Place.{recoded, after_add, refusal}
-use Rattle.place.specs.Adding.{spot, mark_for}
-use Rattle.place.proofs.Calls.{unless_refused, wrote, accepted}
+use Rattle.place.specs.declared.Adding.{Adding}
+use Rattle.place.specs.Adding.{spot, mark_for, barred}
+use Rattle.place.proofs.Calls.{zero-test, unless_refused, wrote, accepted}
 use Rattle.index.proofs.Overlay.{unmarked-capacity}
 
 -- how many of the value's slots are live
@@ -43,7 +45,8 @@ mark-live : (k : Option (ℕ × ℕ)) → is_live (mark_for k) ≡ true
 mark-live None = refl
 mark-live (Some k) = refl
 
-module _ (x : Index) (a : Arrays) (k : Option (ℕ × ℕ)) (v : Item) where
+-- An append is never barred: w writes no slot in use.
+module _ (x : Index) (a : Arrays) (w : Adding) (k : Option (ℕ × ℕ)) (v : Item) (y : ℕ) where
   abbrev h : Header
   h = header_of x
 
@@ -54,13 +57,18 @@ module _ (x : Index) (a : Arrays) (k : Option (ℕ × ℕ)) (v : Item) where
   mark = mark_for k
 
   abbrev new : Slot
-  new = new_slot mark (encoded h no_spare v)
+  new = new_slot mark (encoded h no_spare v) y
 
   abbrev slots : List Slot
   slots = tab (slot_at h a) x.n
 
   abbrev done : Result
-  done = wrote x a (spot x.n k) true v
+  done = wrote x a (spot x.n k) true v y
+
+  unbarred : (w : Adding) → barred w a.years x.n x.n ≡ false
+  unbarred Adding.Unkeyed = refl
+  unbarred (Adding.Keyed j present) = rw (le-ltb x.n x.n (omega arith))
+  unbarred (Adding.Multi j) = refl
 
   module _ (e : fit x a ≡ true) where
     many : length slots ≡ x.n
@@ -72,9 +80,9 @@ module _ (x : Index) (a : Arrays) (k : Option (ℕ × ℕ)) (v : Item) where
     abbrev grown : ℕ → Outcome
     grown n = record { state = with_slots (state_of x a) false (slots ++ (new ∷ [])); answer = slot n }
 
-    refusal_is : refusal x a x.n v ≡ tests x.n
+    refusal_is : refusal x a w x.n v ≡ tests x.n
     unfolding refusal first_of
-    refusal_is = rw e
+    refusal_is = rw (e, unbarred w) (zero-test (fault h v.vector ∷ when (leb room x.n) 8 ∷ []) [])
 
     arrays-are : x.n < room → overlay (unmarked a) (slots ++ (new ∷ [])) ≡ put_slot h a x.n new
     unfolding state_of
@@ -92,11 +100,11 @@ module _ (x : Index) (a : Arrays) (k : Option (ℕ × ℕ)) (v : Item) where
     outcome : (n : ℕ) → tests x.n ≡ n → unless_refused x a n done ≡ laid_over a (guarded (state_of x a) n (grown x.n))
     unfolding guarded recoded
     outcome zero q =
-        let below = (accepted x a x.n v (refusal_is ∙ q)).below in
+        let below = (accepted x a w x.n v (refusal_is ∙ q)).below in
         λ j. result_of (sym record_is j) (sym (arrays-are below) j) (slot x.n)
     outcome (suc n) q = step-refused x a e n (grown x.n)
 
-    pub append-fits : unless_refused x a (refusal x a x.n v) done ≡ laid_over a (appended room (state_of x a) mark v)
+    pub append-fits : unless_refused x a (refusal x a w x.n v) done ≡ laid_over a (appended room (state_of x a) mark v y)
     unfolding appended state_of
     append-fits =
         ap (λ (n : ℕ). unless_refused x a n done) refusal_is ∙ outcome (tests x.n) refl

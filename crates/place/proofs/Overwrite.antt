@@ -6,9 +6,9 @@ use mathlib.Core.Option.{Option, none, some}
 use Rattle.std.specs.Prelude.{Some}
 use Prim.Native.Nat.{ℕ, zero, suc, ◌+◌, ◌*◌, ◌<◌}
 use native.Mathlib.Omega.{arith}
-use borrow.Author.Tests.{lt-leb, eqb-true, eqb-false, eq-eqb, ne_eqb}
+use borrow.Author.Tests.{lt-leb, lt-ltb, eqb-true, eqb-false, eq-eqb, ne_eqb}
 use lib.Dec.{T, eqb}
-use lib.ListN.{length, set, length-map}
+use lib.ListN.{length, get_or, set, length-map}
 use Rattle.std.proofs.lemmas.List.{map-set}
 use Rattle.lists.specs.Lists.{tab, over, splice}
 use Rattle.lists.specs.Keep.{Each, count}
@@ -23,19 +23,20 @@ use Rattle.encode.specs.Header.{block_size}
 use Rattle.encode.specs.Coded.{fault, spare_of}
 use Rattle.index.specs.declared.Index.{Index}
 use Rattle.index.specs.Arrays.{Arrays, unmarked}
-use Rattle.index.specs.State.{Mark, dead, unkeyed, keyed, Slot, live, header_of, capacity, slot_at, state_of, record_of, alive_of, has_key, key_word, position, seconds, scales_of, blocks_of, overlay, put_slot, new_slot, with_code, with_counts}
+use Rattle.index.specs.State.{Mark, dead, unkeyed, keyed, Slot, live, header_of, capacity, slot_at, state_of, record_of, alive_of, has_key, key_word, position, seconds, scales_of, blocks_of, overlay, put_slot, new_slot, with_counts}
 use Rattle.index.specs.Fit.{fit}
 use Rattle.index.specs.Sound.{Shaped, AllShaped}
 use Rattle.index.specs.Codec.{encoded}
-use Rattle.index.specs.Step.{Item, first_of, slot, holds_at, overwritten, Outcome, with_slots, guarded}
+use Rattle.index.specs.Step.{Item, first_of, when, slot, holds_at, overwritten, must_stay, any_must_stay, Outcome, with_slots, guarded}
 use Rattle.index.specs.Call.{Result, laid_over}
 use Rattle.index.specs.Answers.{result_of}
 use Rattle.index.proofs.Encoded.{encoded-shaped}
 use Rattle.index.proofs.Overlay.{plain-none, residual-some, plain-seconds, residual-seconds, second_of}
 use Rattle.index.proofs.Fits.{fitting, overlay-self, fit-sound}
 use Rattle.place.specs.Place.{recoded, after_add, refusal}
+use Rattle.place.specs.declared.Adding.{Adding}
 use Rattle.place.specs.Adding.{spot}
-use Rattle.place.proofs.Calls.{unless_refused, wrote}
+use Rattle.place.proofs.Calls.{zero-test, unless_refused, wrote}
 use Rattle.place.proofs.Blocks.{each_set, over-set, blocks-set, scales-set}
 use Rattle.place.proofs.Append.{live-count, step-refused}
 use Rattle.marks.specs.Live.{no_marks}
@@ -46,7 +47,7 @@ marked j p (dead u) e = absurd (subst T (sym e) tt)
 marked j p (unkeyed u) e = absurd (subst T (sym e) tt)
 marked j p (keyed k q) e = let b = Tests.both (eqb k j) (eqb q p) e in λ t. keyed (eqb-true k j b.0 t) (eqb-true q p b.1 t)
 
-module _ (x : Index) (a : Arrays) (i : ℕ) (v : Item) where
+module _ (x : Index) (a : Arrays) (i : ℕ) (v : Item) (y : ℕ) where
   abbrev h : Header
   h = header_of x
 
@@ -58,7 +59,7 @@ module _ (x : Index) (a : Arrays) (i : ℕ) (v : Item) where
 
   -- the slot anew, and its stages
   abbrev new : Slot
-  new = with_code (old i) (encoded h (spare_of h (old i).code) v)
+  new = new_slot (old i).mark (encoded h (spare_of h (old i).code) v) y
 
   own : Shaped h new.code
   own = encoded-shaped h (spare_of h (old i).code) v
@@ -154,11 +155,11 @@ module _ (x : Index) (a : Arrays) (i : ℕ) (v : Item) where
 
     module _ (j : ℕ) (mine : holds_at j 0 (old i).mark ≡ true) (others : (m : ℕ) → m < x.n → (m ≡ i → ⊥) → holds_at j 0 (old m).mark ≡ false) where
       abbrev change : Slot → Slot
-      change s = overwritten h j v s
+      change s = overwritten h j v y s
 
       -- with the answer to whether it holds that position
       abbrev changed_if : Slot → Bool → Slot
-      changed_if s b = with_code s (cond b (encoded h (spare_of h s.code) v) s.code)
+      changed_if s b = new_slot s.mark (cond b (encoded h (spare_of h s.code) v) s.code) (cond b y s.year)
 
       abbrev after : ℕ → Slot
       after m = cond (eqb m i) new (old m)
@@ -175,7 +176,7 @@ module _ (x : Index) (a : Arrays) (i : ℕ) (v : Item) where
           map-tab change old x.n ∙ tab-ext (λ m. change (old m)) after x.n change-at
           ∙ sym (set-tab old after x.n i new l (rw (eq-eqb i i refl)) (λ m k. rw (ne_eqb m i k)))
 
-      -- one of the arrays of marks
+      -- one of the arrays of marks, or that of years
       marks-are : {B : Type 0} (g : Slot → B) (under xs : List B) → over (map g slots) under ≡ xs → over (map g (set slots i new)) under ≡ set xs i (g new)
       marks-are g under xs q =
           ap (λ zs. over zs under) (map-set g slots i new) ∙ over-set (map g slots) under i (g new) (rw (length-map slots g) within) ∙ ap (λ zs. set zs i (g new)) q
@@ -192,15 +193,16 @@ module _ (x : Index) (a : Arrays) (i : ℕ) (v : Item) where
             alive = marks-are (λ s. alive_of s.mark) (no_marks a.alive) a.alive (ap (λ (b : Arrays). b.alive) self) t;
             codes2 = codes2-are h.residual refl t;
             scales2 = scales2-are h.residual refl t;
+            years = marks-are (λ s. s.year) a.years a.years (ap (λ (b : Arrays). b.years) self) t;
           }
 
       -- its mark stays
       abbrev done : Result
-      done = wrote x a (spot i (Some (j, 0))) false v
+      done = wrote x a (spot i (Some (j, 0))) false v y
 
       placed : overlay (unmarked a) (map change slots) ≡ done.arrays
       unfolding recoded
-      placed = ap (overlay (unmarked a)) changed ∙ arrays-are ∙ ap (λ (m : Mark). put_slot h a i (new_slot m new.code)) (marked j 0 (old i).mark mine)
+      placed = ap (overlay (unmarked a)) changed ∙ arrays-are ∙ ap (λ (m : Mark). put_slot h a i (new_slot m new.code y)) (marked j 0 (old i).mark mine)
 
       record_is : record_of (with_slots (state_of x a) false (map change slots)) ≡ after_add x false
       unfolding record_of state_of
@@ -212,19 +214,21 @@ module _ (x : Index) (a : Arrays) (i : ℕ) (v : Item) where
       abbrev changes : Outcome
       changes = record { state = with_slots (state_of x a) false (map change slots); answer = slot i }
 
-      -- 8 does not come for a slot in use
-      refusal_is : refusal x a i v ≡ fault h v.vector
-      unfolding refusal first_of
-      refusal_is = rw (e, lt-leb (capacity h a) i (omega (arith, l, (fitting x a e).space))) (go (fault h v.vector))
-        where
-          go : (n : ℕ) → first_of (n ∷ 0 ∷ []) ≡ n
-          go zero = refl
-          go (suc n) = refl
+      -- 8 does not come for a slot in use, and 21 comes by the year of this one
+      module _ (present : ℕ) (stays : any_must_stay (holds_at j 0) present (state_of x a).slots ≡ must_stay present (get_or a.years i 0)) where
+        abbrev tests : ℕ
+        tests = first_of (fault h v.vector ∷ when (any_must_stay (holds_at j 0) present (state_of x a).slots) 21 ∷ [])
 
-      outcome : (n : ℕ) → unless_refused x a n done ≡ laid_over a (guarded (state_of x a) n changes)
-      unfolding guarded
-      outcome zero = λ t. result_of (sym record_is t) (sym placed t) (slot i)
-      outcome (suc n) = step-refused x a e n changes
+        refusal_is : refusal x a (Adding.Keyed j present) i v ≡ tests
+        unfolding refusal first_of
+        refusal_is =
+            rw (e, lt-leb (capacity h a) i (omega (arith, l, (fitting x a e).space)), lt-ltb i x.n l, stays)
+            (zero-test (fault h v.vector ∷ []) (when (must_stay present (get_or a.years i 0)) 21 ∷ []))
 
-      pub overwrite-fits : unless_refused x a (refusal x a i v) done ≡ laid_over a (guarded (state_of x a) (fault h v.vector) changes)
-      overwrite-fits = ap (λ (n : ℕ). unless_refused x a n done) refusal_is ∙ outcome (fault h v.vector)
+        outcome : (n : ℕ) → unless_refused x a n done ≡ laid_over a (guarded (state_of x a) n changes)
+        unfolding guarded
+        outcome zero = λ t. result_of (sym record_is t) (sym placed t) (slot i)
+        outcome (suc n) = step-refused x a e n changes
+
+        pub overwrite-fits : unless_refused x a (refusal x a (Adding.Keyed j present) i v) done ≡ laid_over a (guarded (state_of x a) tests changes)
+        overwrite-fits = ap (λ (n : ℕ). unless_refused x a n done) refusal_is ∙ outcome tests

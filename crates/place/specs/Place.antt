@@ -11,6 +11,8 @@ use Rattle.index.specs.Fit.{misfit}
 use Rattle.index.specs.Sound.{Ranged}
 use Rattle.index.specs.Codec.{encoded}
 use Rattle.index.specs.Step.{Item, first_of, when}
+use Rattle.place.specs.declared.Adding.{Adding}
+use Rattle.place.specs.Adding.{barred}
 
 -- ---- the code and the mark
 
@@ -21,7 +23,7 @@ recoded h fresh old v = encoded h (cond fresh no_spare (spare_of h old)) v
 -- the arrays with other codes and scales
 abbrev pub with_stages : Arrays → (codes scales codes2 scales2 : List ℕ) → Arrays
 with_stages a b c d e =
-    record { codes = b; scales = c; keys = a.keys; keyed = a.keyed; held = a.held; alive = a.alive; codes2 = d; scales2 = e }
+    record { codes = b; scales = c; keys = a.keys; keyed = a.keyed; held = a.held; alive = a.alive; codes2 = d; scales2 = e; years = a.years }
 
 -- the code of a vector in the places of a slot, all else kept
 unfoldable pub put_code : Header → Arrays → (fresh : Bool) → (i : ℕ) → Item → Arrays
@@ -30,9 +32,9 @@ put_code h a fresh i v =
     let b = put_slot h a i (with_code s (recoded h fresh s.code v)) in
     with_stages a b.codes b.scales b.codes2 b.scales2
 
--- the mark of a slot in its places, all else kept
-unfoldable pub put_mark : Arrays → (i : ℕ) → Mark → Arrays
-put_mark a i m =
+-- the mark and the year of a slot in their places, all else kept
+unfoldable pub put_mark : Arrays → (i : ℕ) → Mark → (year : ℕ) → Arrays
+put_mark a i m y =
     record {
       codes = a.codes;
       scales = a.scales;
@@ -42,6 +44,7 @@ put_mark a i m =
       alive = set a.alive i (alive_of m);
       codes2 = a.codes2;
       scales2 = a.scales2;
+      years = set a.years i y;
     }
 
 -- the vector can be coded, and the slot has its places
@@ -53,11 +56,12 @@ pub record Codable (h : Header) (a : Arrays) (i : ℕ) (v : Item) : Type 0 where
   pub codes2 : h.residual ≡ true → suc i * block_size h ≤ length a.codes2
   pub scales2 : h.residual ≡ true → i < length a.scales2
 
--- the slot has the places of a mark, and its position fits them
+-- the slot has the places of a mark and a year, and its position fits them
 pub record Markable (a : Arrays) (i : ℕ) (m : Mark) : Type 0 where
   pub keys : i < length a.keys
   pub keyed : i < length a.keyed
   pub held : i < length a.held
+  pub years : i < length a.years
   pub position : position m ≤ 65536
 
 -- ---- the record, and the refusals
@@ -66,6 +70,8 @@ pub record Markable (a : Arrays) (i : ℕ) (m : Mark) : Type 0 where
 abbrev pub after_add : Index → (fresh : Bool) → Index
 after_add x fresh = with_counts x (x.n + bit fresh) (x.live + bit fresh) false
 
--- 13; "Add: 1, 2, 3, 8". 8 does not come for a slot in use: arrays that hold too few slots are 13.
-unfoldable pub refusal : Index → Arrays → (slot : ℕ) → Item → ℕ
-refusal x a i v = first_of (when (misfit x a) 13 ∷ fault (header_of x) v.vector ∷ when (leb (capacity (header_of x) a) i) 8 ∷ [])
+-- 13; "Add: 1, 2, 3, 8"; 21, which "comes after every other test of that call". 8 does not come for a slot in use: arrays that hold too few slots are 13.
+unfoldable pub refusal : Index → Arrays → Adding → (slot : ℕ) → Item → ℕ
+refusal x a w i v =
+    first_of
+    (when (misfit x a) 13 ∷ fault (header_of x) v.vector ∷ when (leb (capacity (header_of x) a) i) 8 ∷ when (barred w a.years x.n i) 21 ∷ [])

@@ -13,7 +13,7 @@ ghost use Rattle.index.specs.Call.{call};
 ghost use Rattle.index.specs.Verdict.{verdict};
 ghost use Rattle.index.specs.Answers.{added};
 ghost use Rattle.place.specs.Place.{Codable, Markable, put_code, put_mark, after_add, refusal};
-ghost use Rattle.place.specs.Adding.{op_of, spot_of, mark_of_spot};
+ghost use Rattle.place.specs.Adding.{op_of, spot_of, mark_of_spot, barred};
 
 use encode::{Header, Scales};
 use index::{Added, Index, Lent, LentMut};
@@ -21,11 +21,11 @@ use refusal::Refusal;
 
 // ---- which slot
 
-// How a vector is added: as a slot without a key; over the first held slot of a key, or as its first one; as one more slot of a key.
+// How a vector is added: as a slot without a key; over the first held slot of a key, or as its first one, by the present year; as one more slot of a key.
 #[derive(Clone, Copy)]
 pub enum Adding {
     Unkeyed,
-    Keyed(u64),
+    Keyed(u64, u16),
     Multi(u64),
 }
 
@@ -42,7 +42,7 @@ fn spot_of(adding: Adding, arrays: &Lent<'_>, n: usize) -> Spot
 {
     match adding {
         Adding::Unkeyed => Spot { slot: n, key: None },
-        Adding::Keyed(key) => Spot {
+        Adding::Keyed(key, _) => Spot {
             slot: held::held_slot(arrays.keys, arrays.keyed, arrays.held, n, key, 0),
             key: Some((key, 0)),
         },
@@ -50,6 +50,16 @@ fn spot_of(adding: Adding, arrays: &Lent<'_>, n: usize) -> Spot
             slot: n,
             key: Some((key, held::held_count(arrays.keys, arrays.keyed, n, key))),
         },
+    }
+}
+
+// Whether the slot is one in use, which must stay as it is: an overwrite alone writes one.
+fn is_barred(adding: Adding, years: &[u16], n: usize, slot: usize) -> bool
+    ensures { result ≡ barred adding years.now n slot }
+{
+    match adding {
+        Adding::Keyed(_, present) => slot < n && retention::must_stay(years, slot, present),
+        Adding::Unkeyed | Adding::Multi(_) => false,
     }
 }
 
@@ -120,11 +130,11 @@ fn put_code(index: Index, fresh: bool, slot: usize, v: &[f32], arrays: &mut Lent
     }
 }
 
-// The mark of a live slot into its places. A slot that is overwritten has it already.
-fn put_mark(spot: Spot, arrays: &mut LentMut<'_>)
+// The mark and the year of a live slot into their places. A slot that is overwritten has its mark already.
+fn put_mark(spot: Spot, year: u16, arrays: &mut LentMut<'_>)
     requires { Markable (contents_mut arrays.old) spot.slot (mark_of_spot spot) }
     ensures same { SameLent arrays.old arrays.new }
-    ensures mark { contents_mut arrays.new ≡ put_mark (contents_mut arrays.old) spot.slot (mark_of_spot spot) }
+    ensures mark { contents_mut arrays.new ≡ put_mark (contents_mut arrays.old) spot.slot (mark_of_spot spot) year }
 {
     let slot = spot.slot;
     let (key, position) = spot.key.unwrap_or((0, 0));
@@ -132,6 +142,7 @@ fn put_mark(spot: Spot, arrays: &mut LentMut<'_>)
     arrays.keyed[slot] = spot.key.is_some();
     arrays.held[slot] = position as u32;
     marks::set_live_mark(arrays.alive, slot, true);
+    arrays.years[slot] = year;
 }
 
 // ---- the call
@@ -151,13 +162,22 @@ fn after_add(index: Index, fresh: bool) -> Index
 }
 
 // The refusal of an add into a slot.
-fn check(index: Index, arrays: &Lent<'_>, slot: usize, v: &[f32]) -> Result<(), Refusal>
-    ensures { fault_of result ≡ refusal index (contents arrays.now) slot (item_of v.now) }
+fn check(
+    index: Index,
+    arrays: &Lent<'_>,
+    adding: Adding,
+    slot: usize,
+    v: &[f32],
+) -> Result<(), Refusal>
+    ensures { fault_of result ≡ refusal index (contents arrays.now) adding slot (item_of v.now) }
 {
     fit::check(index, arrays)?;
     vectors::check(index.dim, index.working_dim, v)?;
     if room::capacity(index, arrays) <= slot {
         return Err(Refusal::Full);
+    }
+    if is_barred(adding, arrays.years, index.n, slot) {
+        return Err(Refusal::MustStay);
     }
     Ok(())
 }
@@ -168,17 +188,18 @@ pub fn put(
     arrays: &mut LentMut<'_>,
     adding: Adding,
     v: &[f32],
+    year: u16,
 ) -> Result<Added, Refusal>
     ensures same { SameLent arrays.old arrays.new }
     ensures answers { added index (verdict result) (contents_mut arrays.new)
-        ≡ call index (contents_mut arrays.old) (op_of adding (item_of v.now)) }
+        ≡ call index (contents_mut arrays.old) (op_of adding (item_of v.now) year) }
 {
     let view = arrays.view();
     let spot = spot_of(adding, &view, index.n);
-    check(index, &view, spot.slot, v)?;
+    check(index, &view, adding, spot.slot, v)?;
     let fresh = spot.slot == index.n;
     put_code(index, fresh, spot.slot, v, arrays);
-    put_mark(spot, arrays);
+    put_mark(spot, year, arrays);
     Ok(Added {
         slot: spot.slot,
         index: after_add(index, fresh),

@@ -13,7 +13,7 @@ use Rattle.index.specs.Verdict.{granted}
 use Rattle.index.specs.Arrays.{Arrays}
 use Rattle.index.specs.State.{record_of, scales_of, blocks_of}
 use Rattle.index.specs.Form.{stage_size}
-use Rattle.index.specs.Read.{form_in, count_in, header_in, stage_from, first_length, stages_in, second_in, table_in, entry_count, state_in, read_refusal, read_into}
+use Rattle.index.specs.Read.{form_in, count_in, header_in, stage_from, first_length, stages_in, second_in, table_in, entry_count, years_in, years_length, year_in, state_in, read_refusal, read_into}
 use Rattle.index.proofs.Overlay.{Roomy, roomy}
 use Rattle.index.proofs.Read.{Accepted, accepted}
 use Rattle.held_order.specs.Restored.{rising_position}
@@ -65,6 +65,9 @@ module _ (file : List ℕ) (a : Arrays) (none : read_refusal file a ≡ 0) where
             let z = zero-mul (block_size (header_in file)) in
             ((omega arith, omega (arith, z), omega arith), omega (arith, z))
 
+    pub years-room : (n ≤ length a.years) × (years_length g ≤ length (years_in g))
+    years-room = rw (en, eg) (room.years, passed.years)
+
     -- what the program has done by these numbers
     pub record Done (b : Arrays) (stages second table : List ℕ) (k m : ℕ) : Type 0 where
       pub stages-are : stages ≡ stages_in g
@@ -80,6 +83,7 @@ module _ (file : List ℕ) (a : Arrays) (none : read_refusal file a ≡ 0) where
       pub alive : b.alive ≡ over (tab (λ _. 1) n) (no_marks a.alive)
       pub codes2 : b.codes2 ≡ over (blocks_of (tab (stage_from w m second) m)) a.codes2
       pub scales2 : b.scales2 ≡ over (scales_of (tab (stage_from w m second) m)) a.scales2
+      pub years : b.years ≡ over (tab (year_in g) n) a.years
 
     fills : (b : Arrays) (stages second table : List ℕ) (k m : ℕ) → Done b stages second table k m → Filled file a b
     fills b stages second table k m d =
@@ -97,6 +101,7 @@ module _ (file : List ℕ) (a : Arrays) (none : read_refusal file a ≡ 0) where
           alive = d.alive ∙ (λ i. over (tab (λ _. 1) (en i)) (no_marks a.alive));
           codes2 = d.codes2 ∙ (λ i. over (blocks_of (tab (stage_from (ew i) (em i) (et i)) (em i))) a.codes2);
           scales2 = d.scales2 ∙ (λ i. over (scales_of (tab (stage_from (ew i) (em i) (et i)) (em i))) a.scales2);
+          years = d.years ∙ (λ i. over (tab (year_in (eg i)) (en i)) a.years);
         }
 
     pub done : (b : Arrays) (stages second table : List ℕ) (k m : ℕ) → Done b stages second table k m → (x : Index) → x ≡ record_of (state_in file) → begun (granted x) b ≡ read_into a file

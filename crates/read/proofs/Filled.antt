@@ -18,7 +18,7 @@ use Rattle.index.specs.declared.Form.{Form}
 use Rattle.index.specs.declared.Index.{Index}
 use Rattle.index.specs.Arrays.{Arrays, unmarked}
 use Rattle.index.specs.State.{Mark, keyed, Slot, live, record_with, record_of, alive_of, has_key, key_word, position, seconds, scales_of, blocks_of, overlay}
-use Rattle.index.specs.Read.{form_in, count_in, header_in, stage_from, key_from, mark_from, stages_in, second_in, table_in, entry_count, entries_in, slot_in, slots_in, state_in, entry_from}
+use Rattle.index.specs.Read.{form_in, count_in, header_in, stage_from, key_from, mark_from, stages_in, second_in, table_in, entry_count, entries_in, year_in, slot_in, slots_in, state_in, entry_from}
 use Rattle.index.specs.Sound.{AllShaped}
 use Rattle.index.proofs.Overlay.{second_of, plain-seconds, residual-seconds}
 use Rattle.index.proofs.Read.{Accepted, read_live, read_length, read-sound}
@@ -64,6 +64,7 @@ module _ (file : List ℕ) where
     pub alive : b.alive ≡ over (tab (λ _. 1) n) (no_marks a.alive)
     pub codes2 : b.codes2 ≡ over (blocks_of (tab (stage_from w (cond f.second n 0) (second_in file)) (cond f.second n 0))) a.codes2
     pub scales2 : b.scales2 ≡ over (scales_of (tab (stage_from w (cond f.second n 0) (second_in file)) (cond f.second n 0))) a.scales2
+    pub years : b.years ≡ over (tab (year_in file) n) a.years
 
   -- ---- stages
 
@@ -81,6 +82,12 @@ module _ (file : List ℕ) where
             residual-seconds (header_in file) e (slots_in file) shape ∙ rising-map second_of (λ k p q c. refl) (λ k. 0) loose ∙ map-tab second_of (slot_in file) n
             ∙ tab-ext (λ i. second_of (slot_in file i)) (stage_from w n (second_in file)) n (λ i l. rw e)
         go false e = plain-seconds (header_in file) e (slots_in file) shape
+
+  -- ---- years
+
+  years-are : map (λ s. s.year) (slots_in file) ≡ tab (year_in file) n
+  unfolding slots_in slot_in
+  years-are = rising-map (λ s. s.year) (λ k p q c. refl) (λ k. 0) loose ∙ map-tab (λ (s : Slot). s.year) (slot_in file) n
 
   -- ---- keys and marks
 
@@ -141,4 +148,5 @@ module _ (file : List ℕ) where
           alive = (f.alive ∙ ap (λ (ys : List ℕ). over ys (no_marks a.alive)) (sym all-live)) j;
           codes2 = (f.codes2 ∙ ap (λ (gs : List Stage). over (blocks_of gs) a.codes2) (sym (second-stages shaped))) j;
           scales2 = (f.scales2 ∙ ap (λ (gs : List Stage). over (scales_of gs) a.scales2) (sym (second-stages shaped))) j;
+          years = (f.years ∙ ap (λ (ys : List ℕ). over ys a.years) (sym years-are)) j;
         }

@@ -4,5 +4,6 @@ mod Faults
 mod Stages
 mod Once
 mod Keys
+mod Years
 mod Filled
 mod Call

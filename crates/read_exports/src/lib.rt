@@ -19,11 +19,12 @@ pub extern "C" fn vecq_raw_from_bytes(
     alive: &mut [u64],
     codes2: &mut [u8],
     scales2: &mut [u32],
+    years: &mut [u16],
     file: &[u8],
 ) -> u8
-    ensures { let a = lent codes.old scales.old keys.old keyed.old held.old alive.old codes2.old scales2.old in
+    ensures { let a = lent codes.old scales.old keys.old keyed.old held.old alive.old codes2.old scales2.old years.old in
         left result fields.new []
-        (lent codes.new scales.new keys.new keyed.new held.new alive.new codes2.new scales2.new)
+        (lent codes.new scales.new keys.new keyed.new held.new alive.new codes2.new scales2.new years.new)
         ≡ begins (read_into a file.now) fields.old a }
 {
     let mut arrays = LentMut {
@@ -35,6 +36,7 @@ pub extern "C" fn vecq_raw_from_bytes(
         alive,
         codes2,
         scales2,
+        years,
     };
     // Nothing may have been written once the record turns out to have no place.
     if fields.len() < words::RECORD_WORDS {

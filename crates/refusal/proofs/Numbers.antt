@@ -25,11 +25,12 @@ above_0 Refusal.FileDims = omega arith
 above_0 Refusal.FileWidth = omega arith
 above_0 Refusal.KeyEntry = omega arith
 above_0 Refusal.TooLarge = omega arith
+above_0 Refusal.MustStay = omega arith
 
 -- the refusals at the places of their numbers, any at the two numbers that none has
 refusals : List Refusal
 refusals =
-    Refusal.Misfit ∷ Refusal.Length ∷ Refusal.ZeroOrNan ∷ Refusal.Infinite ∷ Refusal.Dims ∷ Refusal.Width ∷ Refusal.SlotsInUse ∷ Refusal.ResidualWidth ∷ Refusal.Full ∷ Refusal.NoSlot ∷ Refusal.Misfit ∷ Refusal.NoCascade ∷ Refusal.ScoreNan ∷ Refusal.Misfit ∷ Refusal.EndsEarly ∷ Refusal.NotVecq ∷ Refusal.Version ∷ Refusal.FileDims ∷ Refusal.FileWidth ∷ Refusal.KeyEntry ∷ Refusal.TooLarge ∷ []
+    Refusal.Misfit ∷ Refusal.Length ∷ Refusal.ZeroOrNan ∷ Refusal.Infinite ∷ Refusal.Dims ∷ Refusal.Width ∷ Refusal.SlotsInUse ∷ Refusal.ResidualWidth ∷ Refusal.Full ∷ Refusal.NoSlot ∷ Refusal.Misfit ∷ Refusal.NoCascade ∷ Refusal.ScoreNan ∷ Refusal.Misfit ∷ Refusal.EndsEarly ∷ Refusal.NotVecq ∷ Refusal.Version ∷ Refusal.FileDims ∷ Refusal.FileWidth ∷ Refusal.KeyEntry ∷ Refusal.TooLarge ∷ Refusal.MustStay ∷ []
 
 by_number : ℕ → Refusal
 by_number n = get_or refusals n Refusal.Misfit
@@ -55,6 +56,7 @@ number-back Refusal.FileDims = refl
 number-back Refusal.FileWidth = refl
 number-back Refusal.KeyEntry = refl
 number-back Refusal.TooLarge = refl
+number-back Refusal.MustStay = refl
 
 pub same-number : (r s : Refusal) → number_of r ≡ number_of s → r ≡ s
 same-number r s e = sym (number-back r) ∙ ap by_number e ∙ number-back s

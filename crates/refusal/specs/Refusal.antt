@@ -1,4 +1,4 @@
--- Document 01, "Turned down": the number of each refusal.
+-- Document 01, "Turned down", and document 02: the number of each refusal.
 use Rattle.std.specs.Prelude.{ℕ, Result, Ok, Err}
 use Rattle.refusal.specs.declared.Refusal.{Refusal}
 
@@ -22,6 +22,7 @@ number_of Refusal.FileDims = 17
 number_of Refusal.FileWidth = 18
 number_of Refusal.KeyEntry = 19
 number_of Refusal.TooLarge = 20
+number_of Refusal.MustStay = 21
 
 -- the number of an answer: 0 where nothing is turned down
 abbrev pub fault_of : {A : Type 0} → Result A Refusal → ℕ

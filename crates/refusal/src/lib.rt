@@ -44,6 +44,8 @@ pub enum Refusal {
     KeyEntry = 19,
     // Its dim is over 4,096, or its count over 65,536 or over the lent arrays.
     TooLarge = 20,
+    // A slot that would be taken or written is to be kept: its year is 0, or above 1 and past the present one (02, Req 06).
+    MustStay = 21,
 }
 
 // The number that the paper gives it.

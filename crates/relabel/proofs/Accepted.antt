@@ -28,7 +28,7 @@ use Rattle.remarking.proofs.Marked.{room, has-at, part_same, part-other, mark_at
 -- the arrays with other keys
 abbrev pub with_keys : Arrays → List ℕ → Arrays
 with_keys a ks =
-    record { codes = a.codes; scales = a.scales; keys = ks; keyed = a.keyed; held = a.held; alive = a.alive; codes2 = a.codes2; scales2 = a.scales2 }
+    record { codes = a.codes; scales = a.scales; keys = ks; keyed = a.keyed; held = a.held; alive = a.alive; codes2 = a.codes2; scales2 = a.scales2; years = a.years }
 
 count-never : {X : Type 0} (xs : List X) → count (λ (z : X). false) xs ≡ 0
 count-never {X} xs = sym (length-keep (λ z. false) xs) ∙ ap length (keep-none (λ (z : X). false) xs (each-mem (λ z. false ≡ false) xs (λ z m. refl)))
@@ -64,6 +64,7 @@ module _ (x : Index) (a : Arrays) (e : fit x a ≡ true) where
                 alive = part_same x a e f alive_of a.alive 0 (alive-at x a e) (room x a e).alive (relabelled-part old new alive_of (λ i p. refl)) j;
                 codes2 = a.codes2;
                 scales2 = a.scales2;
+                years = a.years;
               };
           answer = flag true;
         })

@@ -52,11 +52,12 @@ pub fn relabel(
     alive: &[u64],
     codes2: &[u8],
     scales2: &[u32],
+    years: &[u16],
     old: u64,
     new: u64,
 ) -> Result<Option<Index>, Refusal>
-    ensures { changed index (verdict result) (lent codes.now scales.now keys.new keyed.now held.now alive.now codes2.now scales2.now)
-        ≡ call index (lent codes.now scales.now keys.old keyed.now held.now alive.now codes2.now scales2.now)
+    ensures { changed index (verdict result) (lent codes.now scales.now keys.new keyed.now held.now alive.now codes2.now scales2.now years.now)
+        ≡ call index (lent codes.now scales.now keys.old keyed.now held.now alive.now codes2.now scales2.now years.now)
         (Step.relabel old new) }
 {
     let arrays = Lent {
@@ -68,6 +69,7 @@ pub fn relabel(
         alive,
         codes2,
         scales2,
+        years,
     };
     fit::check(index, &arrays)?;
     if may_relabel(keys, keyed, index.n, old, new) {

@@ -92,6 +92,7 @@ module _ (x : Index) (a : Arrays) (e : fit x a ≡ true) where
           alive = parts_of alive_of a.alive;
           codes2 = a.codes2;
           scales2 = a.scales2;
+          years = a.years;
         }
 
     part-after : {B : Type 0} (g : Mark → B) (xs : List B) → over (map (λ s. g s.mark) (map (on_mark f) slots)) xs ≡ parts_of g xs
@@ -126,6 +127,7 @@ module _ (x : Index) (a : Arrays) (e : fit x a ≡ true) where
           alive = (part-after alive_of (no_marks a.alive) ∙ marks-after) j;
           codes2 = (ap (λ gs. over (blocks_of gs) a.codes2) (seconds-same f slots) ∙ ap (λ (b : Arrays). b.codes2) own) j;
           scales2 = (ap (λ gs. over (scales_of gs) a.scales2) (seconds-same f slots) ∙ ap (λ (b : Arrays). b.scales2) own) j;
+          years = (ap (λ ys. over ys a.years) (map-map (λ (s : Slot). s.year) (on_mark f) slots) ∙ ap (λ (b : Arrays). b.years) own) j;
         }
 
     -- the live slots after it, where it kills those that pass a test

@@ -1,4 +1,4 @@
--- The accepted removals, by the lists that the inner functions leave.
+-- The removals: those that 21 turns down, and the accepted ones by the lists that the inner functions leave.
 use mathlib.Core.Path.{◌≡◌, refl, sym, ap, ◌∙◌}
 use mathlib.Core.Bool.{Bool, true, false, cond, ◌&&◌}
 use mathlib.Core.Logic.{◌≢◌}
@@ -19,7 +19,7 @@ use Rattle.index.specs.declared.Index.{Index}
 use Rattle.index.specs.Arrays.{Arrays}
 use Rattle.index.specs.State.{Mark, dead, unkeyed, slot_at, state_of, alive_of, has_key, key_word, position}
 use Rattle.index.specs.Fit.{fit}
-use Rattle.index.specs.Step.{Op, flag, Outcome, live_from, held_by, holds, holds_at, answered, remarked, step, remove, removed, remove_at, gap_filled, position_of}
+use Rattle.index.specs.Step.{Op, flag, refused, when, must_stay, any_must_stay, Outcome, live_from, held_by, holds, holds_at, answered, guarded, remarked, step, remove, removed, remove_at, gap_filled, position_of}
 use Rattle.index.specs.Call.{call}
 use Rattle.index.specs.Answers.{result_of}
 use Rattle.index.proofs.Calls.{outcome, call-answered}
@@ -29,6 +29,8 @@ use Rattle.positions.proofs.Slots.{count_at}
 use Rattle.slot_keys.specs.Has.{slot_has}
 use Rattle.held.specs.Held.{held_count, slot_holds, held_slot}
 use Rattle.held.proofs.Value.{mark-holds_at, position_in, slot-past, held_by_lem, is-held, found-holds, position-found, held-once, only-slot}
+use Rattle.retention.specs.Stays.{key_must_stay}
+use Rattle.retention.proofs.Stays.{key-stays, only-stays}
 use Rattle.remarking.specs.Replaced.{replaced_where}
 use Rattle.remarking.specs.Live.{with_live}
 use Rattle.removal.specs.Dead.{SlotMarks, dead_at, dead_where, placed_at}
@@ -52,6 +54,7 @@ with_marks a w =
       alive = w.alive;
       codes2 = a.codes2;
       scales2 = a.scales2;
+      years = a.years;
     }
 
 count-tab : {X Y : Type 0} (p : X → Bool) (q : Y → Bool) (f : ℕ → X) (g : ℕ → Y) (n : ℕ) → ((i : ℕ) → i < n → p (f i) ≡ q (g i)) →
@@ -106,30 +109,39 @@ module _ (x : Index) (a : Arrays) (e : fit x a ≡ true) where
                         (killing-part dies place not_dead not-unkeyed alive_of alive_of 0 (λ u. refl) (λ u. refl) (λ u. refl) (λ k q. refl)) ∙ ls) j;
                     codes2 = a.codes2;
                     scales2 = a.scales2;
+                    years = a.years;
                   };
               answer = flag true;
             })
 
   -- ---- of a whole key
 
-  module _ (key : ℕ) where
+  module _ (key present : ℕ) where
     abbrev pub many : ℕ
     many = held_count a.keys a.keyed x.n key
 
-    remove-outcome : outcome x a (remove key) e ≡ remarked (state_of x a) (ltb 0 many) 0 (removed key)
+    -- whether one of its slots must stay
+    abbrev stays : Bool
+    stays = key_must_stay a.keys a.keyed a.years x.n key present
+
+    remove-outcome : outcome x a (remove key present) e ≡ remarked (state_of x a) (ltb 0 many) (when stays 21) (removed key)
     unfolding step
-    remove-outcome = rw (is-held x a e key)
+    remove-outcome = rw (is-held x a e key, key-stays x a e key present)
 
-    pub remove-no : many ≡ 0 → call x a (remove key) ≡ result_of x a (flag false)
+    pub remove-no : many ≡ 0 → call x a (remove key present) ≡ result_of x a (flag false)
     unfolding remarked
-    remove-no t = call-answered x a (remove key) e (flag false) (remove-outcome ∙ rw (le-ltb 0 many (omega arith)))
+    remove-no t = call-answered x a (remove key present) e (flag false) (remove-outcome ∙ rw (le-ltb 0 many (omega arith)))
 
-    module _ (some : 0 < many) where
-      accepted : outcome x a (remove key) e ≡ remarked (state_of x a) true 0 (killing (holds key) position)
-      accepted = remove-outcome ∙ rw (lt-ltb 0 many some) (ap (remarked (state_of x a) true 0) (λ j m. removed-kills key m j))
+    pub remove-barred : 0 < many → stays ≡ true → call x a (remove key present) ≡ result_of x a (refused 21)
+    unfolding remarked guarded
+    remove-barred l t = call-answered x a (remove key present) e (refused 21) (remove-outcome ∙ rw (lt-ltb 0 many l, t))
+
+    module _ (some : 0 < many) (free : stays ≡ false) where
+      accepted : outcome x a (remove key present) e ≡ remarked (state_of x a) true 0 (killing (holds key) position)
+      accepted = remove-outcome ∙ rw (lt-ltb 0 many some, free) (ap (remarked (state_of x a) true 0) (λ j m. removed-kills key m j))
 
       pub remove-few : many ≤ x.live
-      remove-few = killed-few (holds key) position (remove key) accepted (λ u. refl) (λ u. refl) (slot_has a.keys a.keyed key) (λ i l. has-at x a e key i l)
+      remove-few = killed-few (holds key) position (remove key present) accepted (λ u. refl) (λ u. refl) (slot_has a.keys a.keyed key) (λ i l. has-at x a e key i l)
 
       places : parts_of x a e (killing (holds key) position) position a.held ≡ replaced_where (slot_has a.keys a.keyed key) x.n 0 0 a.held
       places =
@@ -137,16 +149,16 @@ module _ (x : Index) (a : Arrays) (e : fit x a ≡ true) where
           (λ i l. has-at x a e key i l) (killing-part (holds key) position (λ u. refl) (λ u. refl) position position 0 (λ u. refl) (λ u. refl) (λ u. refl) (λ k q. refl))
 
       pub remove-yes : (w : SlotMarks) → w ≡ dead_where (slot_has a.keys a.keyed key) x.n (marks_of a) →
-          call x a (remove key) ≡ result_of (with_live x (x.live - many)) (with_marks a w) (flag true)
+          call x a (remove key present) ≡ result_of (with_live x (x.live - many)) (with_marks a w) (flag true)
       unfolding dead_where
       remove-yes w is =
-          killed-call (holds key) position (remove key) accepted (λ u. refl) (λ u. refl) (slot_has a.keys a.keyed key) (λ i l. has-at x a e key i l) w
+          killed-call (holds key) position (remove key present) accepted (λ u. refl) (λ u. refl) (slot_has a.keys a.keyed key) (λ i l. has-at x a e key i l) w
           (places ∙ sym (ap (λ (v : SlotMarks). v.held) is))
           (sym (ap (λ (v : SlotMarks). v.keyed) is)) (sym (ap (λ (v : SlotMarks). v.alive) is))
 
   -- ---- of one slot
 
-  module _ (key slot : ℕ) where
+  module _ (key slot present : ℕ) where
     abbrev pub here : Bool
     here = ltb slot x.n && slot_has a.keys a.keyed key slot
 
@@ -160,14 +172,16 @@ module _ (x : Index) (a : Arrays) (e : fit x a ≡ true) where
     -- what the position decides
     abbrev choice : Option ℕ → Outcome
     choice none = answered (state_of x a) (flag false)
-    choice (some gap) = remarked (state_of x a) true 0 (gap_filled key gap (held_by key (live_from 0 (state_of x a).slots) - 1))
+    choice (some gap) =
+        remarked (state_of x a) true (when (any_must_stay (holds_at key gap) present (state_of x a).slots) 21)
+        (gap_filled key gap (held_by key (live_from 0 (state_of x a).slots) - 1))
 
-    at-choice : (b : Bool) → here ≡ b → outcome x a (remove_at key slot) e ≡ choice (cond b (some (get_or a.held slot 0)) none)
+    at-choice : (b : Bool) → here ≡ b → outcome x a (remove_at key slot present) e ≡ choice (cond b (some (get_or a.held slot 0)) none)
     unfolding step
     at-choice b t = ap choice (at_position ∙ ap (λ c. cond c (some (get_or a.held slot 0)) none) t)
 
-    pub at-no : here ≡ false → call x a (remove_at key slot) ≡ result_of x a (flag false)
-    at-no t = call-answered x a (remove_at key slot) e (flag false) (at-choice false t)
+    pub at-no : here ≡ false → call x a (remove_at key slot present) ≡ result_of x a (flag false)
+    at-no t = call-answered x a (remove_at key slot present) e (flag false) (at-choice false t)
 
     module _ (t : here ≡ true) where
       low : slot < x.n
@@ -213,11 +227,17 @@ module _ (x : Index) (a : Arrays) (e : fit x a ≡ true) where
       abbrev place : Mark → ℕ
       place = placed key gap (total - 1)
 
-      at-outcome : outcome x a (remove_at key slot) e ≡ remarked (state_of x a) true 0 (killing (holds_at key gap) place)
-      at-outcome =
-          at-choice true t
-          ∙ ap (λ (n : ℕ). remarked (state_of x a) true 0 (gap_filled key gap (n - 1))) (held_by_lem x a e key)
-          ∙ ap (remarked (state_of x a) true 0) (λ j m. filled-kills key gap (total - 1) m j)
+      -- whether the slot must stay
+      abbrev kept : Bool
+      kept = must_stay present (get_or a.years slot 0)
+
+      at-tested : outcome x a (remove_at key slot present) e ≡
+          remarked (state_of x a) true (when kept 21) (gap_filled key gap (held_by key (live_from 0 (state_of x a).slots) - 1))
+      at-tested = at-choice true t ∙ rw (only-stays x a e key present gap slot low gap-only.passes)
+
+      pub at-barred : kept ≡ true → call x a (remove_at key slot present) ≡ result_of x a (refused 21)
+      unfolding remarked guarded
+      at-barred k = call-answered x a (remove_at key slot present) e (refused 21) (at-tested ∙ rw k)
 
       abbrev gone : ℕ → Bool
       gone = slot_holds a.keys a.keyed a.held key gap
@@ -251,15 +271,23 @@ module _ (x : Index) (a : Arrays) (e : fit x a ≡ true) where
           sym (over-ext (λ i. position (killing (holds_at key gap) place (mark_at a i))) x.n 0 a.held after (room x a e).held
           (length-set (set a.held last gap) slot 0 ∙ length-set a.held last gap) place_at place_rest)
 
-      pub at-few : 1 ≤ x.live
-      at-few = omega (arith, one, killed-few (holds_at key gap) place (remove_at key slot) at-outcome (λ u. refl) (λ u. refl) gone (λ i l. holds_at_lem key i l gap))
+      module _ (free : kept ≡ false) where
+        at-outcome : outcome x a (remove_at key slot present) e ≡ remarked (state_of x a) true 0 (killing (holds_at key gap) place)
+        at-outcome =
+            at-tested ∙ ap (λ (b : Bool). remarked (state_of x a) true (when b 21) (gap_filled key gap (held_by key (live_from 0 (state_of x a).slots) - 1))) free
+            ∙ ap (λ (n : ℕ). remarked (state_of x a) true 0 (gap_filled key gap (n - 1))) (held_by_lem x a e key)
+            ∙ ap (remarked (state_of x a) true 0) (λ j m. filled-kills key gap (total - 1) m j)
 
-      pub at-yes : (w : SlotMarks) → w ≡ dead_at slot (placed_at last gap (marks_of a)) →
-          call x a (remove_at key slot) ≡ result_of (with_live x (x.live - 1)) (with_marks a w) (flag true)
-      unfolding dead_at placed_at
-      at-yes w is =
-          killed-call (holds_at key gap) place (remove_at key slot) at-outcome (λ u. refl) (λ u. refl) gone (λ i l. holds_at_lem key i l gap) w
-          (places-are ∙ sym (ap (λ (v : SlotMarks). v.held) is))
-          (sym (ap (λ (v : SlotMarks). v.keyed) is ∙ set-only gone x.n slot gap-only false false a.keyed (room x a e).keyed))
-          (sym (ap (λ (v : SlotMarks). v.alive) is ∙ set-only gone x.n slot gap-only 0 0 a.alive (room x a e).alive))
-          ∙ ap (λ (n : ℕ). result_of (with_live x (x.live - n)) (with_marks a w) (flag true)) one
+        pub at-few : 1 ≤ x.live
+        at-few =
+            omega (arith, one, killed-few (holds_at key gap) place (remove_at key slot present) at-outcome (λ u. refl) (λ u. refl) gone (λ i l. holds_at_lem key i l gap))
+
+        pub at-yes : (w : SlotMarks) → w ≡ dead_at slot (placed_at last gap (marks_of a)) →
+            call x a (remove_at key slot present) ≡ result_of (with_live x (x.live - 1)) (with_marks a w) (flag true)
+        unfolding dead_at placed_at
+        at-yes w is =
+            killed-call (holds_at key gap) place (remove_at key slot present) at-outcome (λ u. refl) (λ u. refl) gone (λ i l. holds_at_lem key i l gap) w
+            (places-are ∙ sym (ap (λ (v : SlotMarks). v.held) is))
+            (sym (ap (λ (v : SlotMarks). v.keyed) is ∙ set-only gone x.n slot gap-only false false a.keyed (room x a e).keyed))
+            (sym (ap (λ (v : SlotMarks). v.alive) is ∙ set-only gone x.n slot gap-only 0 0 a.alive (room x a e).alive))
+            ∙ ap (λ (n : ℕ). result_of (with_live x (x.live - n)) (with_marks a w) (flag true)) one

@@ -1,4 +1,5 @@
-// The two removals: the slots of a key, and one slot. They change marks, and no code. Keys are found by scanning.
+// The two removals: the slots of a key, and one slot. They change marks, and no code. Keys are found by scanning. `present` is the present year: a slot that must
+// stay is not removed.
 #![tactic(auto)]
 
 ghost use Rattle.std.specs.Prelude.{◌≡◌, cond, ◌&&◌, ◌-◌, ◌≤◌, ◌<◌, length, get_or, ltb};
@@ -76,11 +77,13 @@ pub fn remove_keyed(
     alive: &mut [u64],
     codes2: &[u8],
     scales2: &[u32],
+    years: &[u16],
     key: u64,
+    present: u16,
 ) -> Result<Option<Index>, Refusal>
-    ensures { changed index (verdict result) (lent codes.now scales.now keys.now keyed.new held.new alive.new codes2.now scales2.now)
-        ≡ call index (lent codes.now scales.now keys.now keyed.old held.old alive.old codes2.now scales2.now)
-        (Step.remove key) }
+    ensures { changed index (verdict result) (lent codes.now scales.now keys.now keyed.new held.new alive.new codes2.now scales2.now years.now)
+        ≡ call index (lent codes.now scales.now keys.now keyed.old held.old alive.old codes2.now scales2.now years.now)
+        (Step.remove key present) }
 {
     let arrays = Lent {
         codes,
@@ -91,11 +94,15 @@ pub fn remove_keyed(
         alive: &*alive,
         codes2,
         scales2,
+        years,
     };
     fit::check(index, &arrays)?;
     let many = held::held_count(keys, keyed, index.n, key);
     if many == 0 {
         return Ok(None);
+    }
+    if retention::key_must_stay(keys, keyed, years, index.n, key, present) {
+        return Err(Refusal::MustStay);
     }
     remove_slots(keys, keyed, held, alive, index.n, key);
     Ok(Some(Index {
@@ -143,12 +150,14 @@ pub fn remove_keyed_at(
     alive: &mut [u64],
     codes2: &[u8],
     scales2: &[u32],
+    years: &[u16],
     key: u64,
     slot: usize,
+    present: u16,
 ) -> Result<Option<Index>, Refusal>
-    ensures { changed index (verdict result) (lent codes.now scales.now keys.now keyed.new held.new alive.new codes2.now scales2.now)
-        ≡ call index (lent codes.now scales.now keys.now keyed.old held.old alive.old codes2.now scales2.now)
-        (Step.remove_at key slot) }
+    ensures { changed index (verdict result) (lent codes.now scales.now keys.now keyed.new held.new alive.new codes2.now scales2.now years.now)
+        ≡ call index (lent codes.now scales.now keys.now keyed.old held.old alive.old codes2.now scales2.now years.now)
+        (Step.remove_at key slot present) }
 {
     let arrays = Lent {
         codes,
@@ -159,9 +168,13 @@ pub fn remove_keyed_at(
         alive: &*alive,
         codes2,
         scales2,
+        years,
     };
     fit::check(index, &arrays)?;
     if in_use(keys, keyed, index.n, slot, key) {
+        if retention::must_stay(years, slot, present) {
+            return Err(Refusal::MustStay);
+        }
         let last = last_slot(keys, keyed, held, index.n, key);
         remove_one(keyed, held, alive, slot, last);
         return Ok(Some(Index {

@@ -18,19 +18,20 @@ abbrev held_rooms : Arrays → (bytes : ℕ) → ℕ
 held_rooms a bytes =
     min (min (min (min (min 65536 (length a.codes / bytes)) (length a.scales)) (length a.keys)) (length a.keyed)) (length a.held)
 
--- and with them: of the words' marks, `capacity` counts 65,536 at most
+-- and with them and the years: of the words' marks, `capacity` counts 65,536 at most
 abbrev pub common_rooms : Arrays → (bytes : ℕ) → ℕ
-common_rooms a bytes = min (held_rooms a bytes) (min 65536 (length a.alive))
+common_rooms a bytes = min (min (held_rooms a bytes) (min 65536 (length a.alive))) (length a.years)
 
 -- which changes nothing, since no more are left by then
 capped : (m n : ℕ) → m ≤ 65536 → min m n ≡ min m (min 65536 n)
 capped m n l = omega arith
 
-marks-capped : (a : Arrays) (bytes : ℕ) → min (held_rooms a bytes) (length a.alive) ≡ common_rooms a bytes
+marks-capped : (a : Arrays) (bytes : ℕ) → min (min (held_rooms a bytes) (length a.alive)) (length a.years) ≡ common_rooms a bytes
 unfolding least
 marks-capped a bytes =
-    capped (held_rooms a bytes) (length a.alive)
-    (least-low 65536 (length a.codes / bytes ∷ length a.scales ∷ length a.keys ∷ length a.keyed ∷ length a.held ∷ []))
+    ap (λ (m : ℕ). min m (length a.years))
+    (capped (held_rooms a bytes) (length a.alive)
+    (least-low 65536 (length a.codes / bytes ∷ length a.scales ∷ length a.keys ∷ length a.keyed ∷ length a.held ∷ [])))
 
 module _ (h : Header) (a : Arrays) (bytes : ℕ) (is : bytes ≡ at_width h.bits (block_size h)) where
   -- no byte for a slot: no width that a code has, or no room

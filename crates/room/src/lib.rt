@@ -31,7 +31,8 @@ pub fn capacity(index: Index, arrays: &Lent<'_>) -> usize
         .min(arrays.keys.len())
         .min(arrays.keyed.len())
         .min(arrays.held.len())
-        .min(marks::places(arrays.alive));
+        .min(marks::places(arrays.alive))
+        .min(arrays.years.len());
     if index.residual {
         return marks
             .min(arrays.codes2.len() / bytes)

@@ -1,14 +1,14 @@
 -- What was written is accepted, and the live slots are read back with their scales rounded to halves.
 use mathlib.Core.Path.{◌≡◌, refl, sym, ap, ap₂, ◌∙◌}
-use mathlib.Core.Bool.{Bool, true, false, cond}
-use mathlib.Core.List.{List, [], ◌∷◌, ◌++◌, map, append_assoc}
+use mathlib.Core.Bool.{Bool, true, false, not, cond}
+use mathlib.Core.List.{List, [], ◌∷◌, ◌++◌, map, append-nil, append_assoc}
 use mathlib.Core.Option.{Option, none, some}
-use Prim.Native.Nat.{ℕ, ◌+◌, ◌^◌, ◌≤◌, ◌<◌}
+use Prim.Native.Nat.{ℕ, ◌+◌, ◌*◌, ◌^◌, ◌≤◌, ◌<◌}
 use native.Mathlib.Omega.{arith}
 use lib.ListN.{length, drop, get_or, length-drop, length-map, get_or-map}
 use lib.Seq.{drop_at}
 use lib.Dec.{eqb, ltb}
-use borrow.Author.Tests.{le-ltb, ne_eqb}
+use borrow.Author.Tests.{le-ltb, eqb-true, ne_eqb}
 use Rattle.lists.specs.Lists.{tab, joined}
 use Rattle.lists.specs.Keep.{Each}
 use Rattle.lists.proofs.Keep.{each_weaken, count-length}
@@ -22,15 +22,16 @@ use Rattle.index.specs.State.{capacity}
 use Rattle.index.specs.Fit.{between}
 use Rattle.index.specs.Step.{first_of, when, rising}
 use Rattle.index.specs.declared.Form.{Form}
-use Rattle.index.specs.Form.{stages_at, second_at, keys_at, end_at}
-use Rattle.index.specs.File.{Entry, le_bytes, magic, stage_bytes, second_stages, key_entries, file_of}
+use Rattle.index.specs.Form.{stages_at, second_at, keys_at, years_at, end_at}
+use Rattle.index.specs.File.{Entry, le_bytes, magic, no_duty, version_of, stage_bytes, second_stages, key_entries, year_bytes, file_of}
 use Rattle.index.specs.Sound.{Shaped, block_length}
-use Rattle.index.specs.Read.{little_endian, form_in, dim_in, count_in, working_field, header_in, head_fault, over_limits, stage_from, KeyEntry, entry_from, well_keyed, key_from, mark_from, first_length, second_length, stages_in, second_in, table_in, entry_count, table_length, stated_end, entries_in, slot_in, slots_in, state_in, read_refusal}
-use Rattle.index.proofs.Read.{second_at_lem, table_at}
-use Rattle.layout.proofs.Length.{has_one, keyed-count, form, form-keys, form-known, form-second, file-length, to_stages, to_second, to_keys, stages-begin, second-begins, keys-begin}
+use Rattle.index.specs.Read.{little_endian, form_in, dim_in, count_in, working_field, header_in, head_fault, over_limits, stage_from, KeyEntry, entry_from, well_keyed, key_from, mark_from, first_length, second_length, stages_in, second_in, table_in, entry_count, table_length, years_in, years_length, stated_end, entries_in, year_in, slot_in, slots_in, state_in, read_refusal}
+use Rattle.index.proofs.Fits.{all-each}
+use Rattle.index.proofs.Read.{second_at_lem, table_at, years-there}
+use Rattle.layout.proofs.Length.{has_one, keyed-count, form, form-keys, form-known, form-second, form-years, file-length, to_stages, to_second, to_keys, to_years, stages-begin, second-begins, keys-begin, years-begin}
 use Rattle.round_trip.specs.Back.{halved, halved_if, read_back, PatternLow, KeyLow, Holdable, Writable}
 use Rattle.round_trip.proofs.Fields.{le-back, form-back, count-back, dim-least, dim-most, dim-back, field-low, field_back, header-back}
-use Rattle.round_trip.proofs.Stages.{stage_at}
+use Rattle.round_trip.proofs.Stages.{number-back, stage_at}
 use Rattle.round_trip.proofs.Keys.{pairs, slots_of, entries-are, pairs-low, well-back, key_back, table-back}
 use Rattle.round_trip.proofs.Halves.{half-low}
 
@@ -100,12 +101,20 @@ module _ (h : Header) (es : List Entry) (t : Writable h es) where
 
   -- ---- the parts of the file
 
+  abbrev years : List ℕ
+  years = year_bytes (version_of h es) es
+
   abbrev table : List ℕ
-  table = le_bytes 4 key_count ++ joined (key_entries 0 es)
+  table = le_bytes 4 key_count ++ (joined (key_entries 0 es) ++ years)
+
+  to-years : file ≡ to_years h es shapes ++ years
+  unfolding file_of
+  to-years = refl
 
   to-keys : file ≡ to_keys h es shapes ++ table
-  unfolding file_of
-  to-keys = append_assoc (to_keys h es shapes) (le_bytes 4 key_count) (joined (key_entries 0 es))
+  to-keys =
+      to-years ∙ append_assoc (to_keys h es shapes ++ le_bytes 4 key_count) (joined (key_entries 0 es)) years
+      ∙ append_assoc (to_keys h es shapes) (le_bytes 4 key_count) (joined (key_entries 0 es) ++ years)
 
   to-second : file ≡ to_second h es shapes ++ (stage_bytes (second_stages es) ++ table)
   to-second = to-keys ∙ append_assoc (to_second h es shapes) (stage_bytes (second_stages es)) table
@@ -175,7 +184,7 @@ module _ (h : Header) (es : List Entry) (t : Writable h es) where
   entry-count : entry_count file ≡ key_count
   entry-count =
       ap₂ (λ (g : Form) (bs : List ℕ). cond g.keys (little_endian 4 bs) 0) ef table_is ∙ ap (λ (b : Bool). cond b (little_endian 4 table) 0) (form-keys h es)
-      ∙ le-back 4 key_count (joined (key_entries 0 es)) (omega (arith, few-keys, t.few))
+      ∙ le-back 4 key_count (joined (key_entries 0 es) ++ years) (omega (arith, few-keys, t.few))
 
   key-low : Each (λ e. KeyLow e.key) es
   key-low = each_weaken (Holdable h) (λ e. KeyLow e.key) es (λ e s. s.key) t.entries
@@ -183,9 +192,31 @@ module _ (h : Header) (es : List Entry) (t : Writable h es) where
   entries-back : entries_in file ≡ pairs 0 es
   unfolding entries_in
   entries-back =
-      ap₂ (λ (bs : List ℕ) (k : ℕ). tab (entry_from bs) k) (table_is ∙ ap (λ (bs : List (List ℕ)). le_bytes 4 key_count ++ joined bs) (entries-are 0 es))
+      ap₂ (λ (bs : List ℕ) (k : ℕ). tab (entry_from bs) k) (table_is ∙ ap (λ (bs : List (List ℕ)). le_bytes 4 key_count ++ (joined bs ++ years)) (entries-are 0 es))
       (entry-count ∙ ap length (entries-are 0 es) ∙ length-map (pairs 0 es) (λ (p : KeyEntry). le_bytes 4 p.slot ++ le_bytes 8 p.key))
-      ∙ table-back key_count (pairs 0 es) (pairs-low 0 es (omega (arith, t.few)) key-low)
+      ∙ table-back key_count (pairs 0 es) years (pairs-low 0 es (omega (arith, t.few)) key-low)
+
+  -- ---- years
+
+  years-are : years_in file ≡ years
+  years-are =
+      years-there file ∙ (λ i. drop (years_at (ef i) (ew i) (en i) (entry-count i)) (to-years i))
+      ∙ drop_at (to_years h es shapes) years (years_at f w n key_count) (years-begin h es shapes ∙ ap (years_at f w n) (sym (keyed-count 0 es)))
+
+  year-back : (i : ℕ) (d : Entry) → i < n → year_in file i ≡ (get_or es i d).year
+  year-back i d l =
+      ap₂ (λ (g : Form) (bs : List ℕ). cond g.years (little_endian 2 (drop (i * 2) bs)) 1) ef years-are
+      ∙ ap (λ (b : Bool). cond b (little_endian 2 (drop (i * 2) (cond b (joined written) []))) 1) (form-years h es) ∙ go (no_duty es) refl
+    where
+      written : List (List ℕ)
+      written = map (λ e. le_bytes 2 e.year) es
+
+      low : Each (λ e. e.year < 256 ^ 2) es
+      low = each_weaken (Holdable h) (λ e. e.year < 256 ^ 2) es (λ e s. s.year) t.entries
+
+      go : (b : Bool) → no_duty es ≡ b → cond (not b) (little_endian 2 (drop (i * 2) (cond (not b) (joined written) []))) 1 ≡ (get_or es i d).year
+      go true e = sym (eqb-true (get_or es i d).year 1 (each_at (λ e. eqb e.year 1 ≡ true) es i d (all-each (λ e. eqb e.year 1) es e) l))
+      go false e = ap (λ (bs : List ℕ). little_endian 2 (drop (i * 2) bs)) (sym (append-nil (joined written))) ∙ number-back (λ e. e.year) es [] low i d l
 
   -- ---- slots
 
@@ -195,6 +226,7 @@ module _ (h : Header) (es : List Entry) (t : Writable h es) where
       λ j. record {
         mark = mark_from ((ap (λ (ps : List KeyEntry). key_from ps i) entries-back ∙ key_back i es d l) j);
         code = record { first = first_back i d l j; second = second_back i d l j };
+        year = year-back i d l j;
       }
 
   pub slots-back : slots_in file ≡ rising (λ k. 0) (map read_back es)
@@ -213,7 +245,7 @@ module _ (h : Header) (es : List Entry) (t : Writable h es) where
       (λ i. end_at (ef i) (ew i) (en i) (entry-count i)) ∙ ap (end_at f w n) (keyed-count 0 es) ∙ sym (file-length h es shapes)
 
   -- the blocks end where the file does
-  all_there : stages_at (form_in file) + first_length file + second_length file + table_length file ≡ length file
+  all_there : stages_at (form_in file) + first_length file + second_length file + table_length file + years_length file ≡ length file
   unfolding end_at
   all_there = end_is
 
@@ -253,6 +285,7 @@ module _ (h : Header) (es : List Entry) (t : Writable h es) where
       let first = length-drop (stages_at (form_in file)) file in
       let second = length-drop (first_length file) (stages_in file) in
       let third = length-drop (second_length file) (second_in file) in
+      let fourth = length-drop (table_length file) (table_in file) in
       rw (
         head-back,
         limits-back,
@@ -261,6 +294,7 @@ module _ (h : Header) (es : List Entry) (t : Writable h es) where
         ne_eqb (dim_in file) 0 (λ e. absurd (omega (arith, e, dim-is, dim-least h es t.header))),
         le-ltb (length (second_in file)) (second_length file) (omega (arith, all_there, first, second)),
         le-ltb (length (table_in file)) (table_length file) (omega (arith, all_there, first, second, third)),
+        le-ltb (length (years_in file)) (years_length file) (omega (arith, all_there, first, second, third, fourth)),
         keys-sound,
       )
       (go (ltb (capacity h a) n))

@@ -58,11 +58,11 @@ live-length i (s ∷ ss) = go (live s) (live-length (suc i) ss)
 module _ (x : Index) (a : Arrays) (t : Typed x a) where
   -- numbers that their fields hold
   abbrev Low : Slot → Type 0
-  Low s = (s.code.first.scale < 2 ^ 32) × PatternLow s.code.second × KeyLow (key_of_mark s.mark)
+  Low s = (s.code.first.scale < 2 ^ 32) × PatternLow s.code.second × KeyLow (key_of_mark s.mark) × (s.year < 2 ^ 16)
 
   slot-low : (i : ℕ) → Low (slot_at (header_of x) a i)
   unfolding slot_at
-  slot-low i = (t.scales i, second x.residual, key (get_or a.alive i 0) (get_or a.keyed i false))
+  slot-low i = (t.scales i, second x.residual, key (get_or a.alive i 0) (get_or a.keyed i false), t.years i)
     where
       second : (b : Bool) → PatternLow (cond b (some (stage_at (header_of x) a.scales2 a.codes2 i)) none)
       second true = t.scales2 i
@@ -94,9 +94,9 @@ module _ (x : Index) (a : Arrays) (t : Typed x a) where
           few = omega (arith, length-map cells entry_of, live-length 0 slots, count-length live slots, s.space, low-capacity 65536 (rooms (header_of x) a));
           entries =
               each_map (Holdable (header_of x)) entry_of cells
-              (live-each (λ s. Holdable (header_of x) (record { code = s.code; key = key_of_mark s.mark })) 0 slots
-              (each_weaken (λ s. Shaped (header_of x) s.code × Low s) (λ s. Holdable (header_of x) (record { code = s.code; key = key_of_mark s.mark })) slots
-              (λ s p. record { shape = p.0; scale = p.1.0; scale2 = p.1.1; key = p.1.2 })
+              (live-each (λ s. Holdable (header_of x) (record { code = s.code; key = key_of_mark s.mark; year = s.year })) 0 slots
+              (each_weaken (λ s. Shaped (header_of x) s.code × Low s) (λ s. Holdable (header_of x) (record { code = s.code; key = key_of_mark s.mark; year = s.year })) slots
+              (λ s p. record { shape = p.0; scale = p.1.0; scale2 = p.1.1; key = p.1.2; year = p.1.3 })
               (each_both (λ s. Shaped (header_of x) s.code) Low slots s.shape (each-tab Low (slot_at (header_of x) a) x.n (λ i l. slot-low i)))));
         }
 

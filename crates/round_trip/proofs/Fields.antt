@@ -1,8 +1,8 @@
 -- The head of a file that was written, read back.
 use mathlib.Core.Path.{◌≡◌, refl, sym, ap, ap₂, ◌∙◌}
-use mathlib.Core.Bool.{Bool, true, false, cond}
+use mathlib.Core.Bool.{Bool, true, false, not, cond}
 use mathlib.Core.List.{List, ◌++◌}
-use Prim.Native.Nat.{ℕ, ◌^◌, ◌≤◌, ◌<◌}
+use Prim.Native.Nat.{ℕ, ◌+◌, ◌^◌, ◌≤◌, ◌<◌}
 use native.Mathlib.Nat.{mod-eq_of_lt}
 use native.Mathlib.Omega.{arith}
 use lib.ListN.{length, drop}
@@ -15,7 +15,7 @@ use Rattle.digits.proofs.Digits.{length_digits, number_digits}
 use Rattle.encode.specs.declared.Header.{Header}
 use Rattle.index.specs.declared.Form.{Form}
 use Rattle.index.specs.Form.{form_of}
-use Rattle.index.specs.File.{Entry, le_bytes, version_of, file_of}
+use Rattle.index.specs.File.{Entry, le_bytes, no_duty, version_of, file_of}
 use Rattle.index.specs.Sound.{Ranged}
 use Rattle.index.specs.Read.{little_endian, version_in, form_in, dim_in, count_in, working_field, header_in}
 use Rattle.lists.proofs.Tests.{and_left, and_right}
@@ -31,7 +31,7 @@ module _ (h : Header) (es : List Entry) where
   file = file_of h es
 
   version_low : version_of h es < 65536
-  version_low = written-version h es (λ v. v < 65536) (omega arith) (omega arith) (omega arith)
+  version_low = written-version h es (λ v. v < 65536) (omega arith) (omega arith) (omega arith) (omega arith) (omega arith) (omega arith)
 
   pub version-back : version_in file ≡ version_of h es
   unfolding file_of
@@ -84,12 +84,16 @@ module _ (h : Header) (es : List Entry) where
     width_back : cond (form_in file).width (little_endian 1 (drop 24 file)) 4 ≡ h.bits
     unfolding file_of little_endian form_of version_of
     width_back =
-        ap (λ (f : Form). cond f.width (little_endian 1 (drop 24 file)) 4) form-back ∙ go h.residual (eqb h.bits 4) refl refl
+        ap (λ (f : Form). cond f.width (little_endian 1 (drop 24 file)) 4) form-back ∙ go h.residual (eqb h.bits 4) (no_duty es) refl refl refl
       where
-        go : (b c : Bool) → h.residual ≡ b → eqb h.bits 4 ≡ c → cond (form_of (cond b 260 (cond c 259 261))).width (little_endian 1 (drop 24 file)) 4 ≡ h.bits
-        go true c e f = sym (eqb-true h.bits 4 (rw e at r.residual))
-        go false true e f = sym (eqb-true h.bits 4 f)
-        go false false e f = rw (e, f) (omega arith)
+        go : (b c d : Bool) → h.residual ≡ b → eqb h.bits 4 ≡ c → no_duty es ≡ d →
+            cond (form_of (cond b 260 (cond c 259 261) + cond (not d) 3 0)).width (little_endian 1 (drop 24 file)) 4 ≡ h.bits
+        go true c true e f g = sym (eqb-true h.bits 4 (rw e at r.residual))
+        go true c false e f g = sym (eqb-true h.bits 4 (rw e at r.residual))
+        go false true true e f g = sym (eqb-true h.bits 4 f)
+        go false true false e f g = sym (eqb-true h.bits 4 f)
+        go false false true e f g = rw (e, f, g) (omega arith)
+        go false false false e f g = rw (e, f, g) (omega arith)
 
     pub header-back : h.seed < 2 ^ 64 → header_in file ≡ h
     unfolding header_in file_of

@@ -1,7 +1,7 @@
 -- Key entries that were written, read back: sound, and each slot has its key.
 use mathlib.Core.Path.{◌≡◌, refl, sym, ap, ◌∙◌}
 use mathlib.Core.Bool.{Bool, true, false, ◌&&◌}
-use mathlib.Core.List.{List, [], ◌∷◌, ◌++◌, map, append-nil}
+use mathlib.Core.List.{List, [], ◌∷◌, ◌++◌, map}
 use mathlib.Core.Option.{Option, none, some}
 use Prim.Native.Nat.{ℕ, zero, suc, ◌+◌, ◌*◌, ◌^◌, ◌≤◌, ◌<◌}
 use native.Mathlib.Omega.{arith}
@@ -38,7 +38,7 @@ entries-are i [] = refl
 entries-are i (e ∷ es) = go e.key (entries-are (suc i) es)
   where
     go : (o : Option ℕ) → key_entries (suc i) es ≡ map entry_bytes (pairs (suc i) es) →
-        key_entries i (record { code = e.code; key = o } ∷ es) ≡ map entry_bytes (pairs i (record { code = e.code; key = o } ∷ es))
+        key_entries i (record { code = e.code; key = o; year = e.year } ∷ es) ≡ map entry_bytes (pairs i (record { code = e.code; key = o; year = e.year } ∷ es))
     go none ih = ih
     go (some k) ih = ap (λ (bs : List (List ℕ)). (le_bytes 4 i ++ le_bytes 8 k) ∷ bs) ih
 
@@ -76,7 +76,7 @@ none_before s i [] l = refl
 none_before s i (e ∷ es) l = go e.key (none_before s (suc i) es (omega arith))
   where
     go : (o : Option ℕ) → count (eqb s) (slots_of (pairs (suc i) es)) ≡ 0 →
-        count (eqb s) (slots_of (pairs i (record { code = e.code; key = o } ∷ es))) ≡ 0
+        count (eqb s) (slots_of (pairs i (record { code = e.code; key = o; year = e.year } ∷ es))) ≡ 0
     go none ih = ih
     go (some k) ih = omega (arith, ih, ap bit (ne_eqb s i (λ q. absurd (omega (arith, q, l)))))
 
@@ -86,7 +86,7 @@ once s i [] = omega arith
 once s i (e ∷ es) = go e.key (once s (suc i) es)
   where
     go : (o : Option ℕ) → count (eqb s) (slots_of (pairs (suc i) es)) ≤ 1 →
-        count (eqb s) (slots_of (pairs i (record { code = e.code; key = o } ∷ es))) ≤ 1
+        count (eqb s) (slots_of (pairs i (record { code = e.code; key = o; year = e.year } ∷ es))) ≤ 1
     go none ih = ih
     go (some k) ih = at (eqb s i) refl
       where
@@ -117,7 +117,7 @@ unfolding pairs key_from
 not_yet s i [] l = refl
 not_yet s i (e ∷ es) l = go e.key (not_yet s (suc i) es (omega arith))
   where
-    go : (o : Option ℕ) → key_from (pairs (suc i) es) s ≡ none → key_from (pairs i (record { code = e.code; key = o } ∷ es)) s ≡ none
+    go : (o : Option ℕ) → key_from (pairs (suc i) es) s ≡ none → key_from (pairs i (record { code = e.code; key = o; year = e.year } ∷ es)) s ≡ none
     go none ih = ih
     go (some k) ih = rw (ne_eqb i s (λ q. absurd (omega (arith, q, l)))) ih
 
@@ -126,7 +126,7 @@ unfolding pairs key_from
 key-from i j [] d l = absurd (omega arith)
 key-from i zero (e ∷ es) d l = go e.key
   where
-    go : (o : Option ℕ) → key_from (pairs i (record { code = e.code; key = o } ∷ es)) (i + 0) ≡ o
+    go : (o : Option ℕ) → key_from (pairs i (record { code = e.code; key = o; year = e.year } ∷ es)) (i + 0) ≡ o
     go none = not_yet (i + 0) (suc i) es (omega arith)
     go (some k) = rw (eq-eqb i (i + 0) (omega arith))
 key-from i (suc j) (e ∷ es) d l = go e.key (key-from (suc i) j es d (omega arith))
@@ -135,23 +135,23 @@ key-from i (suc j) (e ∷ es) d l = go e.key (key-from (suc i) j es d (omega ari
     same = omega arith
 
     go : (o : Option ℕ) → key_from (pairs (suc i) es) (suc i + j) ≡ (get_or es j d).key →
-        key_from (pairs i (record { code = e.code; key = o } ∷ es)) (i + suc j) ≡ (get_or es j d).key
+        key_from (pairs i (record { code = e.code; key = o; year = e.year } ∷ es)) (i + suc j) ≡ (get_or es j d).key
     go none ih = ap (key_from (pairs (suc i) es)) same ∙ ih
     go (some k) ih = rw (ne_eqb i (i + suc j) (λ q. absurd (omega (arith, q)))) (ap (key_from (pairs (suc i) es)) same ∙ ih)
 
 pub key_back : (j : ℕ) (es : List Entry) (d : Entry) → j < length es → key_from (pairs 0 es) j ≡ (get_or es j d).key
 key_back j es d l = let z : j ≡ 0 + j = omega arith in ap (key_from (pairs 0 es)) z ∙ key-from 0 j es d l
 
--- ---- the bytes of a table
+-- ---- the bytes of a table, whatever follows it
 
-module _ (k : ℕ) (ps : List KeyEntry) (low : Each (λ p. (p.slot < 256 ^ 4) × (p.key < 256 ^ 8)) ps) where
+module _ (k : ℕ) (ps : List KeyEntry) (rest : List ℕ) (low : Each (λ p. (p.slot < 256 ^ 4) × (p.key < 256 ^ 8)) ps) where
   abbrev table : List ℕ
-  table = le_bytes 4 k ++ joined (map entry_bytes ps)
+  table = le_bytes 4 k ++ (joined (map entry_bytes ps) ++ rest)
 
   cut_at : (i : ℕ) (d : KeyEntry) → i < length ps → take 12 (drop (4 + i * 12) table) ≡ entry_bytes (get_or ps i d)
   cut_at i d l =
-      ap (take 12) (sym (drop-drop (i * 12) 4 table) ∙ ap (drop (i * 12)) (sym (append-nil (joined (map entry_bytes ps)))))
-      ∙ cut-back 12 (map entry_bytes ps) [] (each_map (λ b. length b ≡ 12) entry_bytes ps (each-mem (λ p. length (entry_bytes p) ≡ 12) ps (λ p m. refl))) i (entry_bytes d)
+      ap (take 12) (sym (drop-drop (i * 12) 4 table))
+      ∙ cut-back 12 (map entry_bytes ps) rest (each_map (λ b. length b ≡ 12) entry_bytes ps (each-mem (λ p. length (entry_bytes p) ≡ 12) ps (λ p m. refl))) i (entry_bytes d)
       (rw (length-map ps entry_bytes) l)
       ∙ get_or-map entry_bytes ps i d
 

@@ -5,6 +5,7 @@ mod Halves
 mod Stages
 mod Keys
 pub mod Back
+pub mod Plain
 pub mod Again
 pub mod Compacted
 pub mod Calls

@@ -40,15 +40,31 @@ module _ (w : ℕ) (bs : List (List ℕ)) (rest : List ℕ) (sized : Each (λ b.
   pub after-blocks : drop (length bs * w) (joined bs ++ rest) ≡ rest
   after-blocks = drop_at (joined bs) rest (length bs * w) (length-joined w bs sized)
 
+-- numbers of 16 bits, whatever follows them
+module _ {X : Type 0} (of : X → ℕ) (xs : List X) (rest : List ℕ) where
+  abbrev pub numbers : List (List ℕ)
+  numbers = map (λ x. le_bytes 2 (of x)) xs
+
+  pub numbers-sized : Each (λ b. length b ≡ 2) numbers
+  numbers-sized = each_map (λ b. length b ≡ 2) (λ x. le_bytes 2 (of x)) xs (each-mem (λ x. length (le_bytes 2 (of x)) ≡ 2) xs (λ x m. refl))
+
+  pub number-back : Each (λ x. of x < 256 ^ 2) xs → (i : ℕ) (d : X) → i < length xs → little_endian 2 (drop (i * 2) (joined numbers ++ rest)) ≡ of (get_or xs i d)
+  unfolding little_endian
+  number-back low i d l =
+      ap (number 256)
+      (cut-back 2 numbers rest numbers-sized i (le_bytes 2 (of d)) (rw (length-map xs (λ (x : X). le_bytes 2 (of x))) l)
+      ∙ get_or-map (λ (x : X). le_bytes 2 (of x)) xs i d)
+      ∙ le-back 2 (of (get_or xs i d)) [] (each_at (λ x. of x < 256 ^ 2) xs i d low l)
+
 module _ (w : ℕ) (gs : List Stage) (rest : List ℕ) (sized : Each (λ g. length g.block ≡ w) gs) (low : Each (λ g. narrowed g.scale < 256 ^ 2) gs) where
+  abbrev half_of : Stage → ℕ
+  half_of g = narrowed g.scale
+
   abbrev scales : List (List ℕ)
-  scales = map (λ g. le_bytes 2 (narrowed g.scale)) gs
+  scales = numbers half_of gs []
 
   abbrev blocks : List (List ℕ)
   blocks = map (λ g. g.block) gs
-
-  scales-sized : Each (λ b. length b ≡ 2) scales
-  scales-sized = each_map (λ b. length b ≡ 2) (λ g. le_bytes 2 (narrowed g.scale)) gs (each-mem (λ g. length (le_bytes 2 (narrowed g.scale)) ≡ 2) gs (λ g m. refl))
 
   blocks-sized : Each (λ b. length b ≡ w) blocks
   blocks-sized = each_map (λ b. length b ≡ w) (λ g. g.block) gs sized
@@ -60,17 +76,12 @@ module _ (w : ℕ) (gs : List Stage) (rest : List ℕ) (sized : Each (λ g. leng
   apart = append_assoc (joined scales) (joined blocks) rest
 
   scale_at : (i : ℕ) (d : Stage) → i < length gs → little_endian 2 (drop (i * 2) (stage_bytes gs ++ rest)) ≡ narrowed (get_or gs i d).scale
-  unfolding little_endian
-  scale_at i d l =
-      ap (λ (bs : List ℕ). number 256 (take 2 (drop (i * 2) bs))) apart
-      ∙ ap (number 256) (cut-back 2 scales (joined blocks ++ rest) scales-sized i (le_bytes 2 (narrowed d.scale)) (rw (length-map gs (λ (g : Stage). le_bytes 2 (narrowed g.scale))) l)
-      ∙ get_or-map (λ (g : Stage). le_bytes 2 (narrowed g.scale)) gs i d)
-      ∙ le-back 2 (narrowed (get_or gs i d).scale) [] (each_at (λ g. narrowed g.scale < 256 ^ 2) gs i d low l)
+  scale_at i d l = ap (λ (bs : List ℕ). little_endian 2 (drop (i * 2) bs)) apart ∙ number-back half_of gs (joined blocks ++ rest) low i d l
 
   after-scales : drop (length gs * 2) (stage_bytes gs ++ rest) ≡ joined blocks ++ rest
   after-scales =
       ap₂ (λ (n : ℕ) (bs : List ℕ). drop (n * 2) bs) (sym (length-map gs (λ (g : Stage). le_bytes 2 (narrowed g.scale)))) apart
-      ∙ after-blocks 2 scales (joined blocks ++ rest) scales-sized
+      ∙ after-blocks 2 scales (joined blocks ++ rest) (numbers-sized half_of gs [])
 
   block-at : (i : ℕ) (d : Stage) → i < length gs → block_at w i (drop (length gs * 2) (stage_bytes gs ++ rest)) ≡ (get_or gs i d).block
   block-at i d l =

@@ -52,7 +52,7 @@ code-kept c h = λ i. record { first = record { scale = scale_kept c.first.scale
 
 all_own : (ss : List Slot) → Each (λ x. tidied_mark x.mark ≡ x.mark) ss → Each (λ x. Scales OfHalf x.code) ss → map tidied ss ≡ ss
 all_own [] w h = refl
-all_own (s ∷ ss) w h = λ i. record { mark = w.0 i; code = code-kept s.code h.0 i } ∷ all_own ss w.1 h.1 i
+all_own (s ∷ ss) w h = λ i. record { mark = w.0 i; code = code-kept s.code h.0 i; year = s.year } ∷ all_own ss w.1 h.1 i
 
 pub saved-as-it-is : SavedAsItIs
 unfolding saved compacted
@@ -115,19 +115,19 @@ unfolding guarded
 off-guarded s zero o e f = f
 off-guarded s (suc n) o e f = e
 
-off-remarked : (s : State) (b : Bool) (f : Mark → Mark) → s.cascade ≡ false → (remarked s b 0 f).state.cascade ≡ false
-unfolding remarked guarded
-off-remarked s true f e = e
-off-remarked s false f e = e
+off-remarked : (s : State) (b : Bool) (n : ℕ) (f : Mark → Mark) → s.cascade ≡ false → (remarked s b n f).state.cascade ≡ false
+unfolding remarked
+off-remarked s true n f e = off-guarded s n _ e e
+off-remarked s false n f e = e
 
 off-step : (number : ℕ → ℕ) (room : ℕ) (s : State) (op : HistoryOp) → s.cascade ≡ false → (step room s (op_at number op)).state.cascade ≡ false
 unfolding step appended
-off-step number room s (add v) e = off-guarded s _ _ e refl
-off-step number room s (add_keyed j v) e =
+off-step number room s (add v y) e = off-guarded s _ _ e refl
+off-step number room s (add_keyed j v y present) e =
     either_way (λ o. o.state.cascade ≡ false) (slot_holding j 0 (live_from 0 s.slots)) _ _ (λ q. off-guarded s _ _ e refl) (λ i q. off-guarded s _ _ e refl)
-off-step number room s (add_multi j v) e = off-guarded s _ _ e refl
-off-step number room s (relabel j k) e = off-remarked s _ _ e
-off-step number room s (remove j) e = off-remarked s _ _ e
+off-step number room s (add_multi j v y) e = off-guarded s _ _ e refl
+off-step number room s (relabel j k) e = off-remarked s _ _ _ e
+off-step number room s (remove j present) e = off-remarked s _ _ _ e
 off-step number room s compact e = ap (λ (b : Bool). b && not (any (λ x. not (live x)) s.slots)) e
 off-step number room s (score a q) e = e
 off-step number room s (search q k places) e = e
@@ -142,11 +142,11 @@ off-step number room s (write places) e = e
 
 says-halves : (op : HistoryOp) (t : Told) → is_add op ≡ false → Halves t.living → Halves (says op t).living
 unfolding says
-says-halves (add v) t e h = absurd (subst T e tt)
-says-halves (add_keyed j v) t e h = absurd (subst T e tt)
-says-halves (add_multi j v) t e h = absurd (subst T e tt)
+says-halves (add v y) t e h = absurd (subst T e tt)
+says-halves (add_keyed j v y present) t e h = absurd (subst T e tt)
+says-halves (add_multi j v y) t e h = absurd (subst T e tt)
 says-halves (relabel j k) t e h = either Halves (renames j k t.living) (each_map (λ l. Scales OfHalf l.code) (renamed j k) t.living h) h
-says-halves (remove j) t e h = each_keep (λ l. Scales OfHalf l.code) (λ l. not (carries j l)) t.living h
+says-halves (remove j present) t e h = each_keep (λ l. Scales OfHalf l.code) (λ l. not (carries j l)) t.living h
 says-halves compact t e h = h
 says-halves (score a q) t e h = h
 says-halves (search q k places) t e h = h

@@ -26,9 +26,9 @@ halved_if (some g) = some (halved g)
 abbrev pub halved_code : Code → Code
 halved_code c = record { first = halved c.first; second = halved_if c.second }
 
--- a slot that is read, before positions rise: its key is that of the entry written
+-- a slot that is read, before positions rise: its key and its year are those of the entry written
 abbrev pub read_back : Entry → Slot
-read_back e = new_slot (mark_from e.key) (halved_code e.code)
+read_back e = new_slot (mark_from e.key) (halved_code e.code) e.year
 
 -- The same of a slot that a compaction leaves: the word that stood in `keys` without a key is 0 now.
 abbrev pub tidied_mark : Mark → Mark
@@ -37,7 +37,7 @@ tidied_mark (unkeyed u) = unkeyed 0
 tidied_mark (keyed k p) = keyed k p
 
 abbrev pub tidied : Slot → Slot
-tidied s = new_slot (tidied_mark s.mark) (halved_code s.code)
+tidied s = new_slot (tidied_mark s.mark) (halved_code s.code) s.year
 
 -- a value after it was written and read: what a compaction leaves, scales rounded to halves, the cascade off
 unfoldable pub saved : State → State
@@ -58,6 +58,7 @@ pub record Holdable (h : Header) (e : Entry) : Type 0 where
   pub scale : e.code.first.scale < 2 ^ 32
   pub scale2 : PatternLow e.code.second
   pub key : KeyLow e.key
+  pub year : e.year < 2 ^ 16
 
 pub record Writable (h : Header) (es : List Entry) : Type 0 where
   pub header : Ranged h
@@ -67,12 +68,13 @@ pub record Writable (h : Header) (es : List Entry) : Type 0 where
 
 -- ---- over the calls
 
--- what the types of the record's seed and of the lent arrays say: `u64`, and `u32` for the patterns of scales
+-- what the types of the record's seed and of the lent arrays say: `u64`, `u32` for the patterns of scales, and `u16` for years
 pub record Typed (x : Index) (a : Arrays) : Type 0 where
   pub seed : x.seed < 2 ^ 64
   pub scales : (i : ℕ) → get_or a.scales i 0 < 2 ^ 32
   pub scales2 : (i : ℕ) → get_or a.scales2 i 0 < 2 ^ 32
   pub keys : (i : ℕ) → get_or a.keys i 0 < 2 ^ 64
+  pub years : (i : ℕ) → get_or a.years i 0 < 2 ^ 16
 
 -- reading the file into the arrays is accepted, and the record that it hands back and the arrays that it leaves stand for the value
 pub record Opens (b : Arrays) (file : List ℕ) (s : State) : Type 0 where

@@ -1,3 +1,4 @@
 -- What reading gives back of what was written.
 pub mod Back
+pub mod Plain
 pub mod Stored

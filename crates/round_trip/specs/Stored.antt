@@ -72,11 +72,11 @@ abbrev pub StoredUnchanged : Type 0
 StoredUnchanged = (file : List ℕ) → NumberedFile file → (p : House file) → Reopens (opened p) (run_value (opened p))
 
 abbrev pub is_add : HistoryOp → Bool
-is_add (add v) = true
-is_add (add_keyed j v) = true
-is_add (add_multi j v) = true
+is_add (add v y) = true
+is_add (add_keyed j v y present) = true
+is_add (add_multi j v y) = true
 is_add (relabel j k) = false
-is_add (remove j) = false
+is_add (remove j present) = false
 is_add compact = false
 is_add (score a q) = false
 is_add (search q k places) = false

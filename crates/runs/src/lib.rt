@@ -53,6 +53,20 @@ impl InHex for u8 {
     ghost width = { Prim.search rules };
 }
 
+impl InHex for u16 {
+    const DIGITS: usize = 4;
+
+    ghost DIGITS = { 4 };
+
+    ghost number = { λ n. n };
+
+    fn number(self) -> u64 {
+        self as u64
+    }
+
+    ghost width = { Prim.search rules };
+}
+
 impl InHex for u32 {
     const DIGITS: usize = 8;
 

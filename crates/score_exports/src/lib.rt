@@ -33,10 +33,11 @@ pub extern "C" fn vecq_raw_score(
     alive: &[u64],
     codes2: &[u8],
     scales2: &[u32],
+    years: &[u16],
     slot: usize,
     query: &[f32],
 ) -> u8
-    ensures { let a = lent codes.now scales.now keys.now keyed.now held.now alive.now codes2.now scales2.now in
+    ensures { let a = lent codes.now scales.now keys.now keyed.now held.now alive.now codes2.now scales2.now years.now in
         let op = Step.score slot (query_of query.now) in
         left result fields.now answer.new a ≡ left_by 1 op fields.now answer.old a }
 {
@@ -52,6 +53,7 @@ pub extern "C" fn vecq_raw_score(
         alive,
         codes2,
         scales2,
+        years,
     };
     let scored = score_slot::score(index, &arrays, slot, query);
     put_scored(scored, answer)

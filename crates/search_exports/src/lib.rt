@@ -23,12 +23,13 @@ pub extern "C" fn vecq_raw_search(
     alive: &[u64],
     codes2: &[u8],
     scales2: &[u32],
+    years: &[u16],
     query: &[f32],
     k: usize,
     slots: &mut [u32],
     scores: &mut [f32],
 ) -> u8
-    ensures answers { let a = lent codes.now scales.now keys.now keyed.now held.now alive.now codes2.now scales2.now in
+    ensures answers { let a = lent codes.now scales.now keys.now keyed.now held.now alive.now codes2.now scales2.now years.now in
         let op = Step.search (query_of query.now) k (min (length slots.old) (length scores.old)) in
         found (count_in_words result answer.new) slots.new scores.new
         ≡ answer_beside op a fields.now answer.old }
@@ -48,6 +49,7 @@ pub extern "C" fn vecq_raw_search(
         alive,
         codes2,
         scales2,
+        years,
     };
     let found = search::search(index, &arrays, query, k, slots, scores);
     answer_words::put_count(found, answer)
@@ -65,12 +67,13 @@ pub extern "C" fn vecq_raw_search_keyed(
     alive: &[u64],
     codes2: &[u8],
     scales2: &[u32],
+    years: &[u16],
     query: &[f32],
     k: usize,
     names: &mut [u64],
     scores: &mut [f32],
 ) -> u8
-    ensures answers { let a = lent codes.now scales.now keys.now keyed.now held.now alive.now codes2.now scales2.now in
+    ensures answers { let a = lent codes.now scales.now keys.now keyed.now held.now alive.now codes2.now scales2.now years.now in
         let op = Step.search_keyed (query_of query.now) k (min (length names.old) (length scores.old)) in
         found_keyed (count_in_words result answer.new) names.new scores.new
         ≡ answer_beside op a fields.now answer.old }
@@ -90,6 +93,7 @@ pub extern "C" fn vecq_raw_search_keyed(
         alive,
         codes2,
         scales2,
+        years,
     };
     let found_keyed = search_keyed::search_keyed(index, &arrays, query, k, names, scores);
     answer_words::put_count(found_keyed, answer)
@@ -107,13 +111,14 @@ pub extern "C" fn vecq_raw_search_cascade(
     alive: &[u64],
     codes2: &[u8],
     scales2: &[u32],
+    years: &[u16],
     query: &[f32],
     k: usize,
     r: usize,
     slots: &mut [u32],
     scores: &mut [f32],
 ) -> u8
-    ensures answers { let a = lent codes.now scales.now keys.now keyed.now held.now alive.now codes2.now scales2.now in
+    ensures answers { let a = lent codes.now scales.now keys.now keyed.now held.now alive.now codes2.now scales2.now years.now in
         let op = Step.search_cascade (query_of query.now) k r (min (length slots.old) (length scores.old)) in
         found (count_in_words result answer.new) slots.new scores.new
         ≡ answer_beside op a fields.now answer.old }
@@ -133,6 +138,7 @@ pub extern "C" fn vecq_raw_search_cascade(
         alive,
         codes2,
         scales2,
+        years,
     };
     let found_cascade = search_cascade::search_cascade(index, &arrays, query, k, r, slots, scores);
     answer_words::put_count(found_cascade, answer)

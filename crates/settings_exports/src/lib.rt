@@ -20,9 +20,10 @@ pub extern "C" fn vecq_raw_set_bits(
     alive: &[u64],
     codes2: &[u8],
     scales2: &[u32],
+    years: &[u16],
     bits: u8,
 ) -> u8
-    ensures { let a = lent codes.now scales.now keys.now keyed.now held.now alive.now codes2.now scales2.now in
+    ensures { let a = lent codes.now scales.now keys.now keyed.now held.now alive.now codes2.now scales2.now years.now in
         left result fields.new [] a ≡ left_by 0 (set_bits bits) fields.old [] a }
 {
     let Some(index) = words::record_in(fields) else {
@@ -37,6 +38,7 @@ pub extern "C" fn vecq_raw_set_bits(
         alive,
         codes2,
         scales2,
+        years,
     };
     let width_set = settings::set_bits(index, &arrays, bits);
     answer_words::put_made(width_set, fields)
@@ -53,8 +55,9 @@ pub extern "C" fn vecq_raw_enable_cascade(
     alive: &[u64],
     codes2: &[u8],
     scales2: &[u32],
+    years: &[u16],
 ) -> u8
-    ensures { let a = lent codes.now scales.now keys.now keyed.now held.now alive.now codes2.now scales2.now in
+    ensures { let a = lent codes.now scales.now keys.now keyed.now held.now alive.now codes2.now scales2.now years.now in
         left result fields.new [] a ≡ left_by 0 enable fields.old [] a }
 {
     let Some(index) = words::record_in(fields) else {
@@ -69,6 +72,7 @@ pub extern "C" fn vecq_raw_enable_cascade(
         alive,
         codes2,
         scales2,
+        years,
     };
     let cascade_enabled = settings::enable_cascade(index, &arrays);
     answer_words::put_made(cascade_enabled, fields)

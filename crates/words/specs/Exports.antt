@@ -14,7 +14,7 @@ use Rattle.words.specs.Put.{in_words, put_made}
 
 -- The number of this set of raw signatures. Whoever changes one raises it, since a stale declaration of twenty arguments still links.
 abbrev pub abi : ℕ
-abi = 2
+abi = 3
 
 abbrev pub by_record : {A : Type 0} → Record → (misfit : A) → (Index → A) → A
 by_record None m f = m

@@ -11,7 +11,7 @@ use index::Index;
 pub const RECORD_WORDS: usize = 8;
 
 // The number of the raw signatures: `abi` in specs/Exports.antt says when it is raised.
-pub const ABI: u64 = 2;
+pub const ABI: u64 = 3;
 
 // Whether these words are a byte and two flags. The three are tested together: `u8::try_from` would serve the first alone, since bool has no conversion from a number.
 fn typed(bits: u64, residual: u64, cascade: u64) -> bool

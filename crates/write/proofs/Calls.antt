@@ -15,12 +15,13 @@ use Rattle.index.specs.Verdict.{Verdict, granted, turned_down}
 use Rattle.index.specs.Arrays.{Arrays}
 use Rattle.index.specs.State.{header_of, state_of}
 use Rattle.index.specs.Fit.{fit}
-use Rattle.index.specs.File.{Entry, version_of}
+use Rattle.index.specs.File.{version_of}
 use Rattle.index.specs.Step.{Answer, refused, size, bytes, file_length, write, live_from, file_bytes, answered, when, unless, step}
 use Rattle.index.specs.Call.{Result, call}
 use Rattle.index.specs.Answers.{result_of, how_many, wrote, LaterKept}
 use Rattle.index.proofs.Calls.{call-misfit, call-answered}
 use Rattle.index.proofs.Determined.{entries-there}
+use Rattle.layout.proofs.Counting.{entries}
 use Rattle.write.specs.Pieces.{file_pieces}
 use Rattle.write.proofs.Pieces.{file-pieces}
 
@@ -31,10 +32,13 @@ module _ (x : Index) (a : Arrays) where
   abbrev pieces : (version : ℕ) → List ℕ
   pieces v = file_pieces v (header_of x) a x.n
 
+  abbrev version : ℕ
+  version = version_of (header_of x) (entries (header_of x) a x.n)
+
   -- in the version of the index they are the file
-  pieces_are : (v : ℕ) → ((es : List Entry) → v ≡ version_of (header_of x) es) → pieces v ≡ file
+  pieces_are : (v : ℕ) → v ≡ version → pieces v ≡ file
   unfolding state_of
-  pieces_are v d = ap pieces (d _) ∙ sym (file-pieces (header_of x) a x.n)
+  pieces_are v d = ap pieces d ∙ sym (file-pieces (header_of x) a x.n)
 
   -- ---- what the length tells
 
@@ -78,7 +82,7 @@ module _ (x : Index) (a : Arrays) where
       pub write-short : (n : ℕ) → n ≡ length file → length old < n → Leaves (turned_down 13) old
       write-short n f l = (answer (refused 13) (rw (lt-ltb (length old) (length file) (omega arith))), refl)
 
-      pub write_done : (v n : ℕ) (new : List ℕ) → ((es : List Entry) → v ≡ version_of (header_of x) es) → n ≡ length file → n ≤ length old
+      pub write_done : (v n : ℕ) (new : List ℕ) → v ≡ version → n ≡ length file → n ≤ length old
           → new ≡ sets old 0 (pieces v) → Leaves (granted n) new
       unfolding state_of over
       write_done v n new d f l p =
@@ -90,5 +94,5 @@ module _ (x : Index) (a : Arrays) where
               p ∙ ap (sets old 0) (pieces_are v d) ∙ sets-eq file old 0 (omega (arith, f))
               ∙ ap (λ (k : ℕ). file ++ drop k old) (zero-add (length file))
 
-  pub file-room : (v n m : ℕ) → ((es : List Entry) → v ≡ version_of (header_of x) es) → n ≡ length file → n ≤ m → 0 + length (pieces v) ≤ m
+  pub file-room : (v n m : ℕ) → v ≡ version → n ≡ length file → n ≤ m → 0 + length (pieces v) ≤ m
   file-room v n m d f l = omega (arith, f, ap length (pieces_are v d))

@@ -21,16 +21,17 @@ use Rattle.encode.specs.Header.{block_size}
 use Rattle.encode.specs.Coded.{Code}
 use Rattle.index.specs.Arrays.{Arrays}
 use Rattle.index.specs.State.{mark_of, stage_at, slot_at}
-use Rattle.index.specs.File.{Entry, le_bytes, version_of, width_byte, stage_bytes, second_stages, key_entries, file_of}
+use Rattle.index.specs.File.{Entry, le_bytes, version_of, width_byte, stage_bytes, second_stages, key_entries, year_bytes, file_of}
+use Rattle.index.specs.Form.{form_of}
 use Rattle.index.specs.Step.{live_from, key_of_mark, file_bytes}
 use Rattle.index.proofs.Blocks.{joined-append}
 use Rattle.marks.specs.Live.{live_at}
 use Rattle.layout.specs.Counts.{entry_at, counts_of}
 use Rattle.layout.proofs.Length.{keyed-count}
-use Rattle.layout.proofs.Counting.{numbers, slot_entry, entries-are, live-many, keyed-many}
+use Rattle.layout.proofs.Counting.{numbers, slot_entry, entries, entries-are, live-many, keyed-many}
 use Rattle.write.specs.declared.Writer.{Writer}
 use Rattle.write.specs.Put.{Room, Put}
-use Rattle.write.specs.Pieces.{in_order, scale_piece, code_piece, key_piece, stage_pieces, second_pieces, file_pieces}
+use Rattle.write.specs.Pieces.{in_order, scale_piece, code_piece, key_piece, year_piece, stage_pieces, second_pieces, year_pieces, file_pieces}
 use Rattle.write.proofs.Putting.{order-more}
 
 -- ---- blocks of those that pass a test
@@ -56,8 +57,8 @@ entries-append i [] fs = rw (add-zero i)
 entries-append i (e ∷ es) fs = go e.key (entries-append (suc i) es fs ∙ rw (suc-add i (length es), ← add-suc i (length es)))
   where
     go : (o : Option ℕ) → key_entries (suc i) (es ++ fs) ≡ key_entries (suc i) es ++ key_entries (i + suc (length es)) fs →
-        key_entries i (record { code = e.code; key = o } ∷ (es ++ fs))
-        ≡ key_entries i (record { code = e.code; key = o } ∷ es) ++ key_entries (i + suc (length es)) fs
+        key_entries i (record { code = e.code; key = o; year = e.year } ∷ (es ++ fs))
+        ≡ key_entries i (record { code = e.code; key = o; year = e.year } ∷ es) ++ key_entries (i + suc (length es)) fs
     go none ih = ih
     go (some k) ih = rw ih
 
@@ -66,28 +67,25 @@ map-one f true x = refl
 map-one f false x = refl
 
 -- the entry of one slot, under the number j
-one_entry : (c : Code) (m : ℕ) (on : Bool) (k p j : ℕ) →
-    joined (key_entries j (cond (ltb 0 m) (record { code = c; key = key_of_mark (mark_of m on k p) } ∷ []) [])) ≡ cond (ltb 0 m && on) (le_bytes 4 j ++ le_bytes 8 k) []
+one_entry : (c : Code) (m : ℕ) (on : Bool) (k p y j : ℕ) →
+    joined (key_entries j (cond (ltb 0 m) (record { code = c; key = key_of_mark (mark_of m on k p); year = y } ∷ []) [])) ≡ cond (ltb 0 m && on) (le_bytes 4 j ++ le_bytes 8 k) []
 unfolding joined key_entries
-one_entry c zero on k p j = refl
-one_entry c (suc m) true k p j = rw (lt-ltb 0 (suc m) (omega arith))
-one_entry c (suc m) false k p j = rw (lt-ltb 0 (suc m) (omega arith))
+one_entry c zero on k p y j = refl
+one_entry c (suc m) true k p y j = rw (lt-ltb 0 (suc m) (omega arith))
+one_entry c (suc m) false k p y j = rw (lt-ltb 0 (suc m) (omega arith))
 
 module _ (h : Header) (a : Arrays) where
   abbrev entry : ℕ → Entry
   entry = slot_entry h a
 
-  abbrev entries : ℕ → List Entry
-  entries n = map entry (numbers h a n)
-
   -- the entry of a slot if it is live
   abbrev entry_if : ℕ → List Entry
   entry_if n = cond (live_at a.alive n) (entry n ∷ []) []
 
-  entries-more : (n : ℕ) → entries (suc n) ≡ entries n ++ entry_if n
+  entries-more : (n : ℕ) → entries h a (suc n) ≡ entries h a n ++ entry_if n
   entries-more n =
       ap (map entry) (keep_append (live_at a.alive) (below n) (n ∷ [])) ∙ map-append entry (numbers h a n) (cond (live_at a.alive n) (n ∷ []) [])
-      ∙ ap (λ (es : List Entry). entries n ++ es) (map-one entry (live_at a.alive n) n)
+      ∙ ap (λ (es : List Entry). entries h a n ++ es) (map-one entry (live_at a.alive n) n)
 
   abbrev entry_bytes : ℕ → List ℕ
   entry_bytes = key_piece a.keys a.keyed a.alive
@@ -95,18 +93,18 @@ module _ (h : Header) (a : Arrays) where
   last_entry : (n : ℕ) → joined (key_entries (count (live_at a.alive) (below n)) (entry_if n)) ≡ entry_bytes n
   unfolding slot_at key_piece
   last_entry n =
-      one_entry (slot_at h a n).code (get_or a.alive n 0) (get_or a.keyed n false) (get_or a.keys n 0) (get_or a.held n 0)
+      one_entry (slot_at h a n).code (get_or a.alive n 0) (get_or a.keyed n false) (get_or a.keys n 0) (get_or a.held n 0) (get_or a.years n 0)
       (count (live_at a.alive) (below n))
 
-  key-pieces : (n : ℕ) → joined (key_entries 0 (entries n)) ≡ in_order entry_bytes n
+  key-pieces : (n : ℕ) → joined (key_entries 0 (entries h a n)) ≡ in_order entry_bytes n
   unfolding joined key_entries
   key-pieces zero = refl
   key-pieces (suc n) =
-      ap (λ (es : List Entry). joined (key_entries 0 es)) (entries-more n) ∙ ap joined (entries-append 0 (entries n) (entry_if n))
-      ∙ joined-append (key_entries 0 (entries n)) (key_entries (0 + length (entries n)) (entry_if n)) ∙ ap₂ ◌++◌ (key-pieces n) last ∙ sym (order-more entry_bytes n)
+      ap (λ (es : List Entry). joined (key_entries 0 es)) (entries-more n) ∙ ap joined (entries-append 0 (entries h a n) (entry_if n))
+      ∙ joined-append (key_entries 0 (entries h a n)) (key_entries (0 + length (entries h a n)) (entry_if n)) ∙ ap₂ ◌++◌ (key-pieces n) last ∙ sym (order-more entry_bytes n)
     where
-      last : joined (key_entries (0 + length (entries n)) (entry_if n)) ≡ entry_bytes n
-      last = ap (λ (j : ℕ). joined (key_entries j (entry_if n))) (zero-add (length (entries n)) ∙ live-many h a n) ∙ last_entry n
+      last : joined (key_entries (0 + length (entries h a n)) (entry_if n)) ≡ entry_bytes n
+      last = ap (λ (j : ℕ). joined (key_entries j (entry_if n))) (zero-add (length (entries h a n)) ∙ live-many h a n) ∙ last_entry n
 
   -- ---- stages
 
@@ -127,7 +125,7 @@ module _ (h : Header) (a : Arrays) where
   seconds-by false e [] = refl
   seconds-by false e (i ∷ is) = rw e (seconds-by false e is)
 
-  second-pieces : (n : ℕ) → stage_bytes (second_stages (entries n)) ≡ second_pieces h.residual a.codes2 a.scales2 a.alive (block_size h) n
+  second-pieces : (n : ℕ) → stage_bytes (second_stages (entries h a n)) ≡ second_pieces h.residual a.codes2 a.scales2 a.alive (block_size h) n
   unfolding second_pieces joined
   second-pieces n = ap stage_bytes (seconds-by h.residual refl (numbers h a n)) ∙ go h.residual
     where
@@ -136,19 +134,27 @@ module _ (h : Header) (a : Arrays) where
       go true = stage-pieces a.scales2 a.codes2 n
       go false = refl
 
-  firsts-are : (n : ℕ) → map (λ e. e.code.first) (entries n) ≡ map (stage_at h a.scales a.codes) (numbers h a n)
+  firsts-are : (n : ℕ) → map (λ e. e.code.first) (entries h a n) ≡ map (stage_at h a.scales a.codes) (numbers h a n)
   unfolding slot_at
   firsts-are n = map-map (λ (e : Entry). e.code.first) (slot_entry h a) (numbers h a n)
+
+  -- ---- years
+
+  year-pieces : (v n : ℕ) → year_bytes v (entries h a n) ≡ year_pieces v a.years a.alive n
+  unfolding slot_at year_piece year_pieces
+  year-pieces v n =
+      ap (λ (bs : List (List ℕ)). cond (form_of v).years (joined bs) []) (map-map (λ (e : Entry). le_bytes 2 e.year) entry (numbers h a n))
+      ∙ ap (λ (bs : List ℕ). cond (form_of v).years bs []) (kept-order (live_at a.alive) (λ i. le_bytes 2 (get_or a.years i 0)) n)
 
   -- ---- the file
 
   pub file-pieces : (n : ℕ) → file_bytes h (live_from 0 (tab (slot_at h a) n))
-      ≡ file_pieces (version_of h (entries n)) h a n
+      ≡ file_pieces (version_of h (entries h a n)) h a n
   unfolding file_of file_pieces counts_of
   file-pieces n =
       ap (file_of h) (entries-are h a n)
       ∙ rw (live-many h a n, firsts-are n, stage-pieces a.scales a.codes n, second-pieces n)
-      (rw (keyed-count 0 (entries n), keyed-many h a n, key-pieces n))
+      (rw (keyed-count 0 (entries h a n), keyed-many h a n, key-pieces n, year-pieces (version_of h (entries h a n)) n))
 
 -- ---- the entry under a number that is known
 
@@ -172,5 +178,6 @@ module _ (v : ℕ) (h : Header) (a : Arrays) (n : ℕ) where
   pub pieces-length : length (file_pieces v h a n)
       ≡ 24 + length (width_byte v h) + length (stage_pieces a.codes a.scales a.alive (block_size h) n)
       + length (second_pieces h.residual a.codes2 a.scales2 a.alive (block_size h) n) + 4 + length (in_order (key_piece a.keys a.keyed a.alive) n)
+      + length (year_pieces v a.years a.alive n)
   unfolding file_pieces
   pieces-length = simp length-append (omega arith)

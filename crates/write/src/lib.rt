@@ -11,11 +11,12 @@ ghost use Rattle.index.specs.Step as Step;
 ghost use Rattle.index.specs.Call.{call};
 ghost use Rattle.index.specs.Answers.{result_of, how_many, wrote, LaterKept};
 ghost use Rattle.marks.specs.Live.{marks_in};
-ghost use Rattle.layout.specs.Counts.{entry_at};
+ghost use Rattle.layout.specs.Counts.{entry_at, counts_of};
 ghost use Rattle.write.specs.Put.{Room, Put};
-ghost use Rattle.write.specs.Pieces.{in_order, scale_piece, code_piece, key_piece, stage_pieces, second_pieces, file_pieces};
+ghost use Rattle.write.specs.Pieces.{in_order, scale_piece, code_piece, key_piece, year_piece, stage_pieces, second_pieces, year_pieces, file_pieces};
 
 use index::{Index, Lent};
+use layout::Counts;
 use refusal::Refusal;
 
 // A lent file, and the place from which the next bytes are written.
@@ -87,8 +88,20 @@ impl Writer<'_> {
         self.put_number(8, slot_keys::key_word(arrays.keys, slot));
     }
 
-    // ---- the blocks. A loop each: a trait for what is written of a slot would be longer than the three loops, of which the last
-    // keeps a number besides. By slot: `alive` and what is written out are both read at it, and either may
+    // The year; one past the end counts as 0.
+    fn put_year(&mut self, years: &[u16], alive: &[u64], slot: usize)
+        requires { Room (year_piece years.now (marks_in alive.now) slot) self.old }
+        ensures { Put (year_piece years.now (marks_in alive.now) slot) self.old self.new }
+    {
+        if !marks::is_live(alive, slot) {
+            return;
+        }
+        let year = years.get(slot).copied().unwrap_or(0);
+        self.put_number(2, year as u64);
+    }
+
+    // ---- the blocks. A loop each: a trait for what is written of a slot would be longer than the four loops, of which that over the
+    // key entries keeps a number besides. By slot: `alive` and what is written out are both read at it, and either may
     // be shorter than n.
 
     fn put_scales(&mut self, scales: &[u32], alive: &[u64], n: usize)
@@ -141,6 +154,19 @@ impl Writer<'_> {
         }
     }
 
+    // The years, where the version has them.
+    fn put_years(&mut self, version: u16, years: &[u16], alive: &[u64], n: usize)
+        requires { Room (year_pieces version years.now (marks_in alive.now) n) self.old }
+        ensures { Put (year_pieces version years.now (marks_in alive.now) n) self.old self.new }
+    {
+        if !form::form_of(version).years {
+            return;
+        }
+        for i in 0..n {
+            self.put_year(years, alive, i);
+        }
+    }
+
     // ---- the file
 
     // The first 24 bytes: VECQ, version, working_dim (0 if it equals dim), dim, seed, live count.
@@ -173,19 +199,27 @@ impl Writer<'_> {
     }
 
     // The whole file in this version, a block of codes being so many bytes.
-    fn put_file(&mut self, version: u16, index: Index, block: usize, arrays: &Lent<'_>)
+    fn put_file(
+        &mut self,
+        version: u16,
+        index: Index,
+        counts: Counts,
+        block: usize,
+        arrays: &Lent<'_>,
+    )
+        requires counted { let a = contents arrays.now in counts ≡ counts_of a.keyed a.years a.alive index.n }
         requires block_is_size { block ≡ block_size (header_of index) }
         requires pieces_fit { Room (file_pieces version (header_of index) (contents arrays.now) index.n) self.old }
         ensures { Put (file_pieces version (header_of index) (contents arrays.now) index.n) self.old self.new }
     {
         let n = index.n;
-        let counts = layout::count_slots(arrays.keyed, arrays.alive, n);
         self.put_head(version, index, counts.live);
         self.put_width(version, index);
         self.put_stage(arrays.codes, arrays.scales, arrays.alive, block, n);
         self.put_second(index.residual, arrays, block, n);
         self.put_number(4, counts.keyed as u64);
         self.put_entries(arrays, n);
+        self.put_years(version, arrays.years, arrays.alive, n);
     }
 }
 
@@ -199,12 +233,9 @@ pub fn to_bytes(index: Index, arrays: &Lent<'_>, file: &mut [u8]) -> Result<usiz
     if file.len() < length {
         return Err(Refusal::Misfit);
     }
+    let counts = layout::count_slots(arrays.keyed, arrays.years, arrays.alive, index.n);
+    let version = form::version_with(index, counts.dated > 0);
     let mut out = Writer { file, at: 0 };
-    out.put_file(
-        form::version_of(index),
-        index,
-        room::block_size(index),
-        arrays,
-    );
+    out.put_file(version, index, counts, room::block_size(index), arrays);
     Ok(length)
 }

@@ -22,8 +22,9 @@ pub extern "C" fn vecq_raw_file_length(
     alive: &[u64],
     codes2: &[u8],
     scales2: &[u32],
+    years: &[u16],
 ) -> u8
-    ensures { let a = lent codes.now scales.now keys.now keyed.now held.now alive.now codes2.now scales2.now in
+    ensures { let a = lent codes.now scales.now keys.now keyed.now held.now alive.now codes2.now scales2.now years.now in
         left result fields.now answer.new a ≡ left_by 1 file_length fields.now answer.old a }
 {
     let Some(index) = words::record_beside(fields, answer, 1) else {
@@ -38,6 +39,7 @@ pub extern "C" fn vecq_raw_file_length(
         alive,
         codes2,
         scales2,
+        years,
     };
     let length = layout::file_length(index, &arrays);
     answer_words::put_count(length, answer)
@@ -55,9 +57,10 @@ pub extern "C" fn vecq_raw_to_bytes(
     alive: &[u64],
     codes2: &[u8],
     scales2: &[u32],
+    years: &[u16],
     file: &mut [u8],
 ) -> u8
-    ensures answers { let a = lent codes.now scales.now keys.now keyed.now held.now alive.now codes2.now scales2.now in
+    ensures answers { let a = lent codes.now scales.now keys.now keyed.now held.now alive.now codes2.now scales2.now years.now in
         let op = Step.write (length file.old) in
         wrote (count_in_words result answer.new) file.new ≡ answer_beside op a fields.now answer.old }
     ensures answer_kept { LaterKept (word_count result) answer.old answer.new }
@@ -75,6 +78,7 @@ pub extern "C" fn vecq_raw_to_bytes(
         alive,
         codes2,
         scales2,
+        years,
     };
     let written = write::to_bytes(index, &arrays, file);
     answer_words::put_count(written, answer)

@@ -1,7 +1,7 @@
 use Rattle.std.proofs.Common.{ap, ◌∙◌}
 use Rattle.compact.specs.Gathered.{with_kept}
 use Rattle.layout.proofs.Counting.{whole-block}
-use Rattle.compact.proofs.Arrays.{places-room, first-room, marks-room, second-room, closed-up, compacted-call}
+use Rattle.compact.proofs.Arrays.{places-room, first-room, marks-room, years-room, second-room, closed-up, compacted-call}
 use Rattle.compact.proofs.close_up.Goals as goal
 
 pub live_slots-n-requires : goal.live_slots-n-requires
@@ -18,6 +18,11 @@ gather_stage-requires-2 c =
     let e = c.requires in
     let v = c.live_slots-n.ensures in
     second-room _ _ e _ _ v.slots_after v.value _ _ (whole-block _ _ e _ c.block_size-size.ensures) c.second_stages.ensures
+
+pub gather-requires : goal.gather-requires
+gather-requires c =
+    let v = c.live_slots-n.ensures in
+    years-room _ _ c.requires _ _ v.slots_after v.value
 
 pub gather_marks-requires : goal.gather_marks-requires
 gather_marks-requires c =
@@ -47,4 +52,5 @@ returns c =
       alive = marks.alive_after;
       codes2 = second.codes_after;
       scales2 = second.scales_after;
+      years = c.gather.ensures 0;
     }))

@@ -1,55 +1,24 @@
-use mathlib.Core.Path.{◌≡◌, ap, ◌∙◌}
-use Prim.Native.Nat.{ℕ, ◌+◌, ◌*◌}
-use native.Mathlib.Omega.{arith}
-use lib.Count.{ones-le}
-use Rattle.marks.specs.Live.{marks_in, live_at}
-use Rattle.layout.specs.Counts.{entry_at, counts_of}
-use Rattle.layout.proofs.Counting.{count-few}
-use Rattle.layout.proofs.Words.{few-keyed, live-word, entries-more}
+use Rattle.std.proofs.Common.{refl, ◌∙◌, arith}
+use Rattle.layout.specs.Counts.{counts_of}
+use Rattle.layout.proofs.Words.{few-of, counts-more, summable}
 use Rattle.layout.proofs.count_words.Goals as goal
 
-pub word_entries-requires : goal.word_entries-requires
-word_entries-requires c = rw c.keyed_of_word.ensures (few-keyed c.args.keyed.now c.loop-i.i)
+pub loop-i-init : goal.loop-i-init
+unfolding counts_of
+loop-i-init c = refl
 
-pub overflow_add-live : goal.overflow_add-live
-overflow_add-live c =
-    let i = c.loop-i.i in
-    omega (arith, c.loop-i.invariant.live, count-few (live_at (marks_in c.args.alive.now)) (i * 64), ones-le 64 _ (c.type_inv.alive i).fits, c.loop-i-test.true, c.requires.1)
+pub count_word-word-requires : goal.count_word-word-requires
+count_word-word-requires c =
+    (rw c.of_word.ensures (few-of c.args.keyed.now c.loop-i.i), rw c.of_word-in-loop-i.ensures (few-of c.args.years.now c.loop-i.i))
 
-pub overflow_add-keyed_live : goal.overflow_add-keyed_live
-overflow_add-keyed_live c =
-    let i = c.loop-i.i in
+pub together-next-requires : goal.together-next-requires
+together-next-requires c =
     let a = c.args in
-    omega (
-      arith,
-      c.loop-i.invariant.keyed_live,
-      rw c.keyed_of_word.ensures at c.word_entries.ensures,
-      entries-more a.alive.now i a.keyed.now,
-      count-few (entry_at a.keyed.now (marks_in a.alive.now)) ((i + 1) * 64),
-      c.loop-i-test.true,
-      c.requires.1,
-    )
+    let word = rw (c.of_word.ensures, c.of_word-in-loop-i.ensures) at c.count_word-word.ensures in
+    summable _ _ _ _ _ _ (counts-more a.alive.now c.loop-i.i a.keyed.now a.years.now _ _ c.loop-i.invariant word) (omega (arith, c.loop-i-test.true, c.requires.1))
 
 pub loop-i-preserved : goal.loop-i-preserved
 loop-i-preserved c =
-    let i = c.loop-i.i in
     let a = c.args in
-    record {
-      live = omega (arith, c.loop-i.invariant.live, live-word a.alive.now i (c.type_inv.alive i).fits);
-      keyed_live =
-          omega (
-            arith,
-            c.loop-i.invariant.keyed_live,
-            rw c.keyed_of_word.ensures at c.word_entries.ensures,
-            entries-more a.alive.now i a.keyed.now,
-          );
-    }
-
-pub returns : goal.returns
-unfolding counts_of
-returns c =
-    let v = c.loop-i.invariant in
-    let e : c.loop-i.i ≡ c.args.whole = omega (arith, c.loop-i.auto.i-end, c.loop-i-test.false) in
-    let counts : record { live = c.loop-i.live; keyed = c.loop-i.keyed_live } ≡ counts_of c.args.keyed.now (marks_in c.args.alive.now) (c.loop-i.i * 64) =
-    λ j. record { live = v.live j; keyed = v.keyed_live j } in
-    counts ∙ ap (λ (n : ℕ). counts_of c.args.keyed.now (marks_in c.args.alive.now) (n * 64)) e
+    let word = rw (c.of_word.ensures, c.of_word-in-loop-i.ensures) at c.count_word-word.ensures in
+    c.together-next.ensures ∙ counts-more a.alive.now c.loop-i.i a.keyed.now a.years.now _ _ c.loop-i.invariant word

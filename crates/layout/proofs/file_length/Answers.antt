@@ -1,7 +1,7 @@
 use Rattle.std.proofs.Common.{rules, ◌≡◌, Err, sym}
 use Rattle.index.specs.Step.{file_length}
 use Rattle.index.proofs.Calls.{call-misfit}
-use Rattle.layout.proofs.Counting.{whole-block, low-block, low-counts, length-is, length-call}
+use Rattle.layout.proofs.Counting.{whole-block, low-block, low-counts, version-is, length-is, length-call}
 use Rattle.layout.proofs.file_length.Goals as goal
 
 pub returns-in_err-check : goal.returns-in_err-check
@@ -18,5 +18,6 @@ length_of-requires c =
 pub returns : goal.returns
 returns c =
     let e = c.in_ok-check.ensures in
-    length-call _ _ e _
-    (length-is _ _ e _ _ _ _ c.count_slots-counts.ensures c.version_of.ensures (whole-block _ _ e _ c.block_size.ensures) c.length_of.ensures)
+    let counts = c.count_slots-counts.ensures in
+    let version = version-is _ _ e _ _ counts c.version_with-version.ensures in
+    length-call _ _ e _ (length-is _ _ e _ _ _ _ counts version (whole-block _ _ e _ c.block_size.ensures) c.length_of.ensures)

@@ -1,7 +1,7 @@
 use Rattle.std.proofs.Common.{rules, arith, ◌≡◌, Err, sym}
 use Rattle.refusal.proofs.Numbers.{above_0}
 use Rattle.read.proofs.Faults.{passed-head, read_none}
-use Rattle.read.proofs.Call.{first-room, marks-room, second-room, done}
+use Rattle.read.proofs.Call.{first-room, marks-room, second-room, years-room, done}
 use Rattle.read.proofs.from_bytes.Goals as goal
 
 pub returns-in_err-check-clause-answers : goal.returns-in_err-check-clause-answers
@@ -33,6 +33,13 @@ read_stage-requires-2 c =
     let room = second-room c.args.file.now _ none _ c.file_in-from.ensures _ _ _ from.form_is from.block_is from.count_is _ _ c.second_stage.ensures c.seconds.ensures in
     record { room = room.0; bytes_fit = room.1 }
 
+pub read_years-requires : goal.read_years-requires
+read_years-requires c =
+    let none = sym (rw c.view.ensures at c.in_ok-check.ensures) in
+    let from = c.file_in-from.result in
+    let room = years-room c.args.file.now _ none _ c.file_in-from.ensures _ _ _ from.form_is from.block_is from.count_is in
+    record { room = room.0; bytes_fit = room.1 }
+
 pub returns-clause-answers : goal.returns-clause-answers
 returns-clause-answers c =
     let none = sym (rw c.view.ensures at c.in_ok-check.ensures) in
@@ -55,5 +62,6 @@ returns-clause-answers c =
       alive = marks.alive_after;
       codes2 = second.codes_after;
       scales2 = second.scales_after;
+      years = c.read_years.ensures;
     })
     _ c.index_in.ensures

@@ -1,5 +1,5 @@
 use Rattle.std.proofs.Common.{rules, ◌≡◌, Err}
-use Rattle.layout.proofs.Counting.{whole-block}
+use Rattle.layout.proofs.Counting.{whole-block, version-is}
 use Rattle.write.proofs.Calls.{measured, unmeasured, write-misfit, write-short, write_done, file-room}
 use Rattle.write.proofs.to_bytes.Goals as goal
 
@@ -23,14 +23,14 @@ put_file-requires-clause-block_is_size c =
 pub put_file-requires-clause-pieces_fit : goal.put_file-requires-clause-pieces_fit
 put_file-requires-clause-pieces_fit c =
     let m = measured _ _ _ c.in_ok-length.ensures in
-    file-room _ _ _ _ _ c.version_of.ensures m.1 c.if-file-length.false
+    file-room _ _ _ _ _ (version-is _ _ m.0 _ _ c.count_slots-counts.ensures c.version_with-version.ensures) m.1 c.if-file-length.false
 
 pub returns-clause-answers : goal.returns-clause-answers
 returns-clause-answers c =
     let m = measured _ _ _ c.in_ok-length.ensures in
-    (write_done _ _ _ m.0 _ _ _ c.version_of.ensures m.1 c.if-file-length.false (search rules)).0
+    (write_done _ _ _ m.0 _ _ _ (version-is _ _ m.0 _ _ c.count_slots-counts.ensures c.version_with-version.ensures) m.1 c.if-file-length.false (search rules)).0
 
 pub returns-clause-later_kept : goal.returns-clause-later_kept
 returns-clause-later_kept c =
     let m = measured _ _ _ c.in_ok-length.ensures in
-    (write_done _ _ _ m.0 _ _ _ c.version_of.ensures m.1 c.if-file-length.false (search rules)).1
+    (write_done _ _ _ m.0 _ _ _ (version-is _ _ m.0 _ _ c.count_slots-counts.ensures c.version_with-version.ensures) m.1 c.if-file-length.false (search rules)).1

@@ -22,11 +22,14 @@ put_number-requires-clause-room c = omega (arith, pieces-length, rw c.requires.b
 pub put_entries-requires : goal.put_entries-requires
 put_entries-requires c = omega (arith, pieces-length, rw c.requires.block_is_size at c.put_stage.ensures.after, rw c.requires.block_is_size at c.put_second.ensures.after)
 
+pub put_years-requires : goal.put_years-requires
+put_years-requires c = omega (arith, pieces-length, rw c.requires.block_is_size at c.put_stage.ensures.after, rw c.requires.block_is_size at c.put_second.ensures.after)
+
 pub returns : goal.returns
 unfolding file_pieces
 returns c =
-    let n = c.count_slots-counts.ensures in
+    let n = c.requires.counted in
     let head = rw n at c.put_head.ensures in
     let stage = put-more (put-more head c.put_width.ensures) (rw c.requires.block_is_size at c.put_stage.ensures) in
     let second = put-more stage (rw c.requires.block_is_size at c.put_second.ensures) in
-    put-more (put-more second (rw n at c.put_number.ensures)) c.put_entries.ensures
+    put-more (put-more (put-more second (rw n at c.put_number.ensures)) c.put_entries.ensures) c.put_years.ensures

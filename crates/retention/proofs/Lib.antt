@@ -1,0 +1,2 @@
+-- Laws of slots that must stay.
+pub mod Stays

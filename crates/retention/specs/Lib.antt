@@ -1,0 +1,2 @@
+-- Which slots must stay, by the lent arrays.
+pub mod Stays
