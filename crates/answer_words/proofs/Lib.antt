@@ -1,2 +1,3 @@
 -- Laws of words written over lent slices.
+pub mod Verdicts
 mod Places

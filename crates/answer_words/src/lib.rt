@@ -8,7 +8,7 @@ ghost use Rattle.refusal.specs.Refusal.{fault_of};
 ghost use Rattle.index.specs.Verdict.{verdict};
 ghost use Rattle.index.specs.Step.{first_of};
 ghost use Rattle.words.specs.Words.{record_words, words_of};
-ghost use Rattle.words.specs.Put.{put, put_words, put_count, put_made, put_both, put_next, put_added, put_changed};
+ghost use Rattle.words.specs.Put.{put, put_words, put_count, put_made, put_both, put_next, put_added, put_changed, Puts};
 
 use index::{Added, Index};
 use refusal::Refusal;
@@ -72,9 +72,12 @@ pub fn without_place(check: Result<(), Refusal>) -> u8
     }
 }
 
+// ---- A refusal is of any type that gives a number.
+
 // The words of the record.
-pub fn put_made(made: Result<Index, Refusal>, fields: &mut [u64]) -> u8
-    ensures { put result fields.new ≡ put_made (verdict made) fields.old }
+#[tactic(auto, unfolding(words::specs::Put::Puts))]
+pub fn put_made<R: Into<u8>>(made: Result<Index, R>, fields: &mut [u64]) -> u8
+    ensures { Puts R.converts made (λ t. put_made t fields.old) (put result fields.new) }
 {
     match made {
         Ok(index) => {
@@ -84,31 +87,35 @@ pub fn put_made(made: Result<Index, Refusal>, fields: &mut [u64]) -> u8
             }
             13
         }
-        Err(refusal) => u8::from(refusal),
+        Err(refused) => refused.into(),
     }
 }
 
 // The words of the record, and the slot.
-pub fn put_added(added: Result<Added, Refusal>, fields: &mut [u64], answer: &mut [u64]) -> u8
-    ensures { put_both result fields.new answer.new ≡ put_added (verdict added) fields.old answer.old }
+#[tactic(auto, unfolding(words::specs::Put::Puts))]
+pub fn put_added<R: Into<u8>>(added: Result<Added, R>, fields: &mut [u64], answer: &mut [u64]) -> u8
+    ensures { Puts R.converts added (λ t. put_added t fields.old answer.old)
+        (put_both result fields.new answer.new) }
 {
     match added {
         Ok(added) => put_next(added.index, added.slot as u64, fields, answer),
-        Err(refusal) => u8::from(refusal),
+        Err(refusal) => refusal.into(),
     }
 }
 
 // The words of the record, and 1 for yes; 0 for no, which has no new record.
-pub fn put_changed(
-    changed: Result<Option<Index>, Refusal>,
+#[tactic(auto, unfolding(words::specs::Put::Puts))]
+pub fn put_changed<R: Into<u8>>(
+    changed: Result<Option<Index>, R>,
     fields: &mut [u64],
     answer: &mut [u64],
 ) -> u8
-    ensures { put_both result fields.new answer.new ≡ put_changed (verdict changed) fields.old answer.old }
+    ensures { Puts R.converts changed (λ t. put_changed t fields.old answer.old)
+        (put_both result fields.new answer.new) }
 {
     match changed {
         Ok(Some(index)) => put_next(index, 1, fields, answer),
         Ok(None) => put_word(0, answer),
-        Err(refusal) => u8::from(refusal),
+        Err(refusal) => refusal.into(),
     }
 }

@@ -72,6 +72,11 @@ abbrev pub Other : Listed → Type 0
 Other (Ok m) = ⊥
 Other (Err u) = Unit
 
+-- or by what it is not
+pub is-other : (r : Listed) → ((m : ℕ) → r ≡ Ok m → ⊥) → Other r
+is-other (Ok m) h = absurd (h m refl)
+is-other (Err u) h = tt
+
 -- one more than the hits that are listed, 0 where none is
 abbrev hits_in : Listed → ℕ
 hits_in (Ok m) = suc m

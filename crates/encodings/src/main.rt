@@ -19,7 +19,7 @@
 // document 01's number, in decimal. Tables are those of the width.
 #![tactic(auto)]
 
-ghost use Rattle.std.specs.Prelude.{◌≤◌, ◌<◌, length, IfSome, IfOk};
+ghost use Rattle.std.specs.Prelude.{◌≡◌, ◌≤◌, ◌<◌, length, IfSome, IfOk};
 
 use encode::{Header, Scales};
 use lines::{Lines, TooLong};
@@ -42,11 +42,10 @@ fn main(rt: HostRuntime) {
 }
 
 // Answers line after line. `leaves` has the same loop: a function for both would take `answer` as a closure, and need a crate for these few lines.
-fn run<R: Read>(lines: &mut Lines<'_, R>, out: &mut Printer<'_>) {
-    for _ in 0..u64::MAX {
-        let Some(found) = lines.next_line() else {
-            break;
-        };
+fn run<R: Read>(lines: &mut Lines<'_, R>, out: &mut Printer<'_>)
+    ensures { lines.new.left ≡ 0 }
+{
+    while let Some(found) = lines.next_line() {
         match found {
             Ok(line) => answer(out, lines.bytes(line)),
             Err(TooLong) => out.put_byte(print::UNREADABLE),

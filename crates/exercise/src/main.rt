@@ -13,7 +13,8 @@
 //   dump                                        the record and the arrays
 #![tactic(auto)]
 
-ghost use Rattle.std.specs.Prelude.{◌≤◌};
+ghost use Rattle.std.specs.Prelude.{◌≡◌, ◌≤◌};
+ghost use Rattle.lines.specs.Lines.{GoesOn};
 
 use index::{Added, Index, Lent, LentMut};
 use lines::{Lines, Span, TooLong};
@@ -86,16 +87,15 @@ struct State {
 }
 
 // Answers all lines. Nothing says that the input ends, so lines are counted, up to a number that no run uses up.
-fn run<R: Read>(lines: &mut Lines<'_, R>, out: &mut Printer<'_>) {
+fn run<R: Read>(lines: &mut Lines<'_, R>, out: &mut Printer<'_>)
+    ensures { lines.new.left ≡ 0 }
+{
     let mut state = State {
         index: first_record(),
         lent: Lengths::NONE,
         fresh: false,
     };
-    for _ in 0..u64::MAX {
-        let Some(next) = answer_with_fresh(lines, out, state) else {
-            break;
-        };
+    while let Some(next) = answer_with_fresh(lines, out, state) {
         state = next;
     }
 }
@@ -110,7 +110,9 @@ fn answer_with_fresh<R: Read>(
     lines: &mut Lines<'_, R>,
     out: &mut Printer<'_>,
     state: State,
-) -> Option<State> {
+) -> Option<State>
+    ensures { GoesOn lines.old.left lines.new.left result }
+{
     let mut codes = code_bytes();
     let mut scales = [0u32; 4096];
     let mut keys = [0u64; 4096];
@@ -144,16 +146,17 @@ fn answer_with_fresh<R: Read>(
     answer_lines(lines, out, &mut arrays, state)
 }
 
-// Answers lines up to the one that lends arrays anew.
+// Answers lines up to the one that lends arrays anew; `None` where the input has ended.
 fn answer_lines<R: Read>(
     lines: &mut Lines<'_, R>,
     out: &mut Printer<'_>,
     arrays: &mut LentMut<'_>,
     first: State,
-) -> Option<State> {
+) -> Option<State>
+    ensures { GoesOn lines.old.left lines.new.left result }
+{
     let mut state = first;
-    for _ in 0..u64::MAX {
-        let found = lines.next_line()?;
+    while let Some(found) = lines.next_line() {
         let next = turn(lines, found, out, arrays, state);
         state = next;
         if state.fresh {

@@ -58,7 +58,7 @@ module _ (keyed : List Bool) (years alive : List ℕ) (i n : ℕ) (end : length 
       let beyond : length alive ≤ j = omega (arith, end, m) in
       rw (get_or-eq_default alive 0 beyond)
 
-  counts_end : counts_of keyed years alive i ≡ counts_of keyed years alive n
+  pub counts_end : counts_of keyed years alive i ≡ counts_of keyed years alive n
   unfolding counts_of
   counts_end =
       λ t. record {

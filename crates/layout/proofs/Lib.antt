@@ -1,4 +1,4 @@
--- Laws of the layout: the length of any file by its counts, the counts of the slots in use, and that a block fits its type.
+-- Laws of the layout: the length of any file by its counts, the counts of the slots in use, and the numbers that occur.
 pub mod Length
 pub mod Counting
 pub mod Numbers

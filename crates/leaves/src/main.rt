@@ -19,7 +19,7 @@
 // 65,536.) For an infinity it has those at p, p - 1 and p + 1, for a NaN the one at p. Patterns are counted modulo 2^32.
 #![tactic(auto)]
 
-ghost use Rattle.std.specs.Prelude.{◌≤◌, ◌<◌, IfSome};
+ghost use Rattle.std.specs.Prelude.{◌≡◌, ◌≤◌, ◌<◌, IfSome};
 
 use lines::{Lines, TooLong};
 use print::Printer;
@@ -41,11 +41,10 @@ fn main(rt: HostRuntime) {
 }
 
 // Answers line after line. `encodings` has the same loop, and says why.
-fn run<R: Read>(lines: &mut Lines<'_, R>, out: &mut Printer<'_>) {
-    for _ in 0..u64::MAX {
-        let Some(found) = lines.next_line() else {
-            break;
-        };
+fn run<R: Read>(lines: &mut Lines<'_, R>, out: &mut Printer<'_>)
+    ensures { lines.new.left ≡ 0 }
+{
+    while let Some(found) = lines.next_line() {
         match found {
             Ok(line) => answer(out, lines.bytes(line)),
             Err(TooLong) => out.put_byte(print::UNREADABLE),

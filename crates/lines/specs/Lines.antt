@@ -1,5 +1,5 @@
 -- What is handed out of the buffer. What standard input holds no contract can say.
-use Rattle.std.specs.Prelude.{◌≡◌, ◌&&◌, cond, List, ℕ, ◌-◌, ◌≤◌, ◌<◌, Bool, Option, Result, Ok, Err, IfSome, IfOk, leb, length, take, drop, get_or}
+use Rattle.std.specs.Prelude.{◌≡◌, ◌&&◌, cond, List, ℕ, ◌-◌, ◌≤◌, ◌<◌, Bool, Option, Result, Ok, Err, IfSome, IfOk, MatchOption, leb, length, take, drop, get_or}
 use Rattle.lines.specs.declared.Span.{Span}
 use Rattle.lines.specs.declared.TooLong.{TooLong}
 
@@ -35,3 +35,8 @@ pub record Line (buf : List ℕ) (s : Span) : Type 0 where
 -- what is handed out is a line of the buffer, or was passed over
 abbrev pub Handed : List ℕ → Option (Result Span TooLong) → Type 0
 Handed buf found = IfSome found (λ r. IfOk r (Line buf))
+
+-- a step takes one at least of what is left of the lines and reads, and hands nothing out only at the end, where none is left
+pub record GoesOn {A : Type 0} (before left : ℕ) (found : Option A) : Type 0 where
+  pub fewer : left ≤ before - 1
+  pub ended : MatchOption found (left ≡ 0) (λ _. 0 < left)

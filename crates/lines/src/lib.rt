@@ -11,7 +11,7 @@
 #![tactic(auto)]
 
 ghost use Rattle.std.specs.Prelude.{◌≡◌, ◌+◌, ◌≤◌, ◌<◌, length, take, IfOk, MatchOption};
-ghost use Rattle.lines.specs.Lines.{Within, NoNewline, no_span, clipped, part_of, handed, Line, Handed};
+ghost use Rattle.lines.specs.Lines.{Within, NoNewline, no_span, clipped, part_of, handed, Line, Handed, GoesOn};
 
 use std::io::Read;
 
@@ -36,6 +36,8 @@ pub struct Lines<'a, R> {
     pub buf: &'a mut [u8],
     // What was read and not handed out.
     pub unread: Span,
+    // 0 where the input has ended. Nothing says that it ends, so lines and reads are counted down from a number that no run uses up.
+    pub left: u64,
 }
 
 impl<'a, R: Read> Lines<'a, R> {
@@ -43,6 +45,7 @@ impl<'a, R: Read> Lines<'a, R> {
     pub fn new(reader: &'a mut R, buf: &'a mut [u8]) -> Lines<'a, R>
         ensures buffer { result.buf.now ≡ buf.old }
         ensures unread { result.unread ≡ no_span }
+        ensures left { result.left ≡ 18446744073709551615 }
         ensures same_buffer { result.buf.ghost_name ≡ buf.entry.ghost_name }
         ensures same_reader { result.reader.ghost_name ≡ reader.entry.ghost_name }
     {
@@ -50,6 +53,7 @@ impl<'a, R: Read> Lines<'a, R> {
             reader,
             buf,
             unread: Span::EMPTY,
+            left: u64::MAX,
         }
     }
 
@@ -63,55 +67,79 @@ impl<'a, R: Read> Lines<'a, R> {
 
     // The next line, without its newline; `None` where the input has ended. A last line without its newline counts, unless it is empty.
     // The reader is read only where the buffer has no whole line more, and then once at a time, into all the room that there is: a line
-    // is handed out as soon as its newline has come.
+    // is handed out as soon as its newline has come. Once the input has ended, it is not read again.
     pub fn next_line(&mut self) -> Option<Result<Span, TooLong>>
         ensures line { Handed self.new.buf.now result }
         ensures unread { Within (length self.new.buf.now) self.new.unread }
+        ensures left { GoesOn self.old.left self.new.left result }
         ensures length { length self.new.buf.now ≡ length self.old.buf.now }
         ensures same_buffer { self.new.buf.ghost_name ≡ self.old.buf.ghost_name }
         ensures same_reader { self.new.reader.ghost_name ≡ self.old.reader.ghost_name }
     {
         let before = within(self.unread, self.buf.len());
-        let (line, unread) = next_in(self.reader, self.buf, before);
-        self.unread = unread;
-        line
+        let next = next_in(self.reader, self.buf, before, self.left);
+        self.unread = next.unread;
+        self.left = next.left;
+        next.line
     }
 }
 
-// The next line, and what is unread after it. Nothing says that the input ends, so the reads are counted, up to a number that no run uses up.
-// That a part lies within the buffer is a clause, here and below: the buffer is changed, and a struct of both would be made anew for each part.
-fn next_in<R: Read>(
-    reader: &mut R,
-    buf: &mut [u8],
+// A step of the lines: what is handed out, what is unread after it, and how many lines and reads are left.
+#[derive(Clone, Copy)]
+struct Next {
+    line: Option<Result<Span, TooLong>>,
     unread: Span,
-) -> (Option<Result<Span, TooLong>>, Span)
+    left: u64,
+}
+
+// The input has ended: nothing is handed out, and nothing is unread.
+const ENDED: Next = Next {
+    line: None,
+    unread: Span::EMPTY,
+    left: 0,
+};
+
+// The next line, of the lines and reads that are left.
+// That a part lies within the buffer is a clause, here and below: the buffer is changed, and a struct of both would be made anew for each part.
+fn next_in<R: Read>(reader: &mut R, buf: &mut [u8], unread: Span, before: u64) -> Next
     requires { Within (length buf.old) unread }
-    ensures line { Handed buf.new result.0 }
-    ensures unread { Within (length buf.new) result.1 }
+    ensures line { Handed buf.new result.line }
+    ensures unread { Within (length buf.new) result.unread }
+    ensures left { GoesOn before result.left result.line }
 {
     let mut part = unread;
     let mut long = false;
-    for _ in 0..u64::MAX {
+    for left in (1..before).rev() {
         if let Some(end) = newline(buf, part) {
             let rest = Span {
                 from: end + 1,
                 to: part.to,
             };
-            return (Some(handed(buf, long, part.from, end)), rest);
+            return Next {
+                line: Some(handed(buf, long, part.from, end)),
+                unread: rest,
+                left,
+            };
         }
         long = long || part.to - part.from == buf.len();
         let kept = keep(buf, part);
         let got = read_more(reader, buf, kept);
         if got == 0 {
-            let last = (long || 0 < kept).then_some(handed(buf, long, 0, kept));
-            return (last, Span::EMPTY);
+            if !long && kept == 0 {
+                return ENDED;
+            }
+            return Next {
+                line: Some(handed(buf, long, 0, kept)),
+                left,
+                ..ENDED
+            };
         }
         part = Span {
             from: 0,
             to: kept + got,
         };
     }
-    (None, Span::EMPTY)
+    ENDED
 }
 
 // The part itself, or an empty one where the part is not within the buffer.

@@ -11,14 +11,26 @@ pub fn after(bytes: &[u8], at: usize) -> &[u8]
     bytes.get(at..).unwrap_or(&[])
 }
 
-// The first N bytes; 0 past the end.
+// A byte; 0 past the end.
+fn byte_at(bytes: &[u8], i: usize) -> u8
+    ensures { result ≡ get_or bytes.now i 0 }
+{
+    bytes.get(i).copied().unwrap_or(0)
+}
+
+// The first N bytes; 0 past the end. Where all N are there they are read at once, else one by one: with a copy of unknown length the libraries for C would need
+// memcpy from outside.
 fn first<const N: usize>(bytes: &[u8]) -> [u8; N]
     requires { N ≤ 8 }
     ensures { (i : ℕ) → i < N → get_or result i 0 ≡ get_or bytes.now i 0 }
 {
+    if let Some(head) = bytes.first_chunk::<N>() {
+        return *head;
+    }
     let mut head = [0; N];
-    let many = bytes.len().min(N);
-    head[..many].copy_from_slice(&bytes[..many]);
+    for (i, byte) in head.iter_mut().enumerate() {
+        *byte = byte_at(bytes, i);
+    }
     head
 }
 

@@ -32,7 +32,7 @@ cut l k n t e = go (ltb k n) refl
     go false h = let past = ltb-false k n h in rw (min-eq_right past, sets-out l n t (omega arith), sets-out l k t (omega arith))
 
 -- what is printed from the place after s on stands after s
-print_then : (d : List ℕ) (at : ℕ) (s t d' : List ℕ) (next : ℕ) (d'' : List ℕ) (after : ℕ) → Prints d at s d' next → Prints d' next t d'' after → Prints d at (s ++ t) d'' after
+pub print_then : (d : List ℕ) (at : ℕ) (s t d' : List ℕ) (next : ℕ) (d'' : List ℕ) (after : ℕ) → Prints d at s d' next → Prints d' next t d'' after → Prints d at (s ++ t) d'' after
 print_then d at s t d' next d'' after p q =
     let kept : length d' ≡ length d = ap length p.text ∙ length-sets d at s in
     let both : length (s ++ t) ≡ length s + length t = length-append s t in

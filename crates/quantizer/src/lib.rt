@@ -27,7 +27,7 @@ fn halving(boundaries: &[f32], x: f32, n: usize) -> usize
 }
 
 // The code of x at a width, and 0 at a width that has no levels.
-pub fn quantize(x: f32, bits: u8) -> u8
+fn quantize_at(x: f32, bits: u8) -> u8
     ensures { result ≡ quantized (boundaries_of bits) x }
 {
     let n = lloyd::levels(bits);
@@ -36,6 +36,18 @@ pub fn quantize(x: f32, bits: u8) -> u8
     }
     let table = lloyd::boundaries(bits);
     halving(&table[0..n - 1], x, n - 1) as u8
+}
+
+// The same, with the three widths written out, so that the compiler knows how many turns the halving has and how long the table is.
+pub fn quantize(x: f32, bits: u8) -> u8
+    ensures { result ≡ quantized (boundaries_of bits) x }
+{
+    match bits {
+        4 => quantize_at(x, 4),
+        5 => quantize_at(x, 5),
+        6 => quantize_at(x, 6),
+        w => quantize_at(x, w),
+    }
 }
 
 // True only of a table that rises strictly.

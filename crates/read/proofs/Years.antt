@@ -13,7 +13,7 @@ use Rattle.index.specs.Read.{little_endian, form_in, years_in, year_in}
 use Rattle.read.proofs.Keys.{filled}
 
 -- a number of two bytes; one that is not there counts 0
-two-bytes : (bytes : List ℕ) (k : ℕ) → little_endian 2 (drop k bytes) ≡ get_or bytes k 0 + 256 * get_or bytes (k + 1) 0
+pub two-bytes : (bytes : List ℕ) (k : ℕ) → little_endian 2 (drop k bytes) ≡ get_or bytes k 0 + 256 * get_or bytes (k + 1) 0
 unfolding little_endian
 two-bytes [] zero = refl
 two-bytes [] (suc k) = refl

@@ -2,13 +2,13 @@
 // No function here that others call asks anything of its caller.
 #![tactic(auto)]
 
-ghost use Rattle.std.specs.Prelude.{◌≡◌, true, ℕ, ◌+◌, ◌*◌, ◌^◌, ◌≤◌, ◌<◌, length, IfSome, MatchOption};
+ghost use Rattle.std.specs.Prelude.{◌≡◌, true, ℕ, ◌+◌, ◌*◌, ◌^◌, ◌≤◌, ◌<◌, ltb, length, IfSome, MatchOption};
 ghost use Rattle.std.specs.Float.{binary32};
 ghost use Rattle.std.specs.Float.Ieee.{of_bits};
 ghost use Rattle.std.proofs.Common.{rules};
 ghost use Rattle.lists.specs.Lists.{tab, over};
 ghost use Rattle.text.specs.Fields.{field_at};
-ghost use Rattle.values.specs.Reading.{digit_of, are_digits, digits_read, leads_with_zero, number_at_most, is_run, run_of, IsRun, element_of, floats_of, bytes_of};
+ghost use Rattle.values.specs.Reading.{digit_of, are_digits, value_of, digits_read, leads_with_zero, number_at_most, is_run, run_of, IsRun, element_of, floats_of, bytes_of};
 
 // Field i as a number: 1 to 16 digits, the first of several not 0, of a value of at most `most`.
 pub fn number_at(line: &[u8], i: usize, most: u64) -> Option<u64>
@@ -61,35 +61,55 @@ fn leads_with_zero(field: &[u8]) -> bool
     matches!(field, [b'0', _, ..])
 }
 
-// The value of a hexadecimal digit, in lower case.
+// Hexadecimal digits, in lower case: the test apart from the value, and no Option of it. Each alone the compiler makes without a jump by whether a digit is a
+// letter, which is often guessed wrong.
 #[tactic(auto, unfolding(crate::specs::Reading::digit_of))]
-fn digit(b: u8) -> Option<u8>
-    ensures { MatchOption result (16 ≤ digit_of b) (λ d. (d ≡ digit_of b) × (d < 16)) }
+fn is_digit(b: u8) -> bool
+    ensures { result ≡ ltb (digit_of b) 16 }
+{
+    matches!(b, b'0'..=b'9' | b'a'..=b'f')
+}
+
+// The value of a digit; 16 for any other byte.
+#[tactic(auto, unfolding(crate::specs::Reading::digit_of))]
+fn digit(b: u8) -> u8
+    ensures { result ≡ digit_of b }
 {
     match b {
-        b'0'..=b'9' => Some(b - b'0'),
-        b'a'..=b'f' => Some(b - b'a' + 10),
-        _ => None,
+        b'0'..=b'9' => b - b'0',
+        b'a'..=b'f' => b - b'a' + 10,
+        _ => 16,
     }
 }
 
 fn are_digits(s: &[u8]) -> bool
     ensures { result ≡ are_digits s.now }
 {
-    s.iter().all(|b| digit(*b).is_some())
+    s.iter().all(|b| is_digit(*b))
 }
 
-// The number that at most 16 digits stand for.
+// The number that a run of at most 16 digits stands for.
+fn value_of(digits: &[u8]) -> u64
+    requires { (are_digits digits.now ≡ true) × (length digits.now ≤ 16) }
+    ensures { (result ≡ value_of digits.now) × (result < 16 ^ length digits.now) }
+{
+    let mut v: u64 = 0;
+    for b in digits {
+        v = v * 16 + u64::from(digit(*b));
+    }
+    v
+}
+
+// The number that at most 16 bytes stand for, where all are digits.
 fn value(digits: &[u8]) -> Option<u64>
     requires { length digits.now ≤ 16 }
     ensures value { result ≡ digits_read digits.now }
     ensures bound { IfSome result (λ v. v < 16 ^ length digits.now) }
 {
-    let mut v: u64 = 0;
-    for b in digits {
-        v = v * 16 + u64::from(digit(*b)?);
+    if !are_digits(digits) {
+        return None;
     }
-    Some(v)
+    Some(value_of(digits))
 }
 
 // ---- runs of elements
@@ -180,5 +200,5 @@ fn number_in(field: &[u8], width: usize, i: usize) -> u64
     ensures { (result ≡ element_of width field.now i) × (result < 16 ^ width) }
 {
     let from = width * i;
-    value(&field[from..from + width]).unwrap()
+    value_of(&field[from..from + width])
 }

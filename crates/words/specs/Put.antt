@@ -1,5 +1,5 @@
 -- The answers of calls as a number, 0 where the call is accepted, and words over the first places of lent slices. A refusal is its number, and no word is written.
-use Rattle.std.specs.Prelude.{cond, ◌||◌, List, [], ◌∷◌, ℕ, length, ltb, Some, None}
+use Rattle.std.specs.Prelude.{cond, ◌||◌, List, [], ◌∷◌, ℕ, length, ltb, Some, None, Result, Ok, Err, ◌≡◌}
 use Rattle.std.specs.Prelude as Std
 use Rattle.std.proofs.Math.Option.{Option, none, some}
 use Rattle.std.specs.Float.{binary32}
@@ -39,6 +39,13 @@ in_words (hits xs) = put 0 (length xs ∷ [])
 in_words (key_hits xs) = put 0 (length xs ∷ [])
 in_words (size n) = put 0 (n ∷ [])
 in_words (bytes bs) = put 0 (length bs ∷ [])
+
+-- ---- an answer put in words
+
+-- What is put of an answer whose refusal is of any type that gives a number: what `says` has for its verdict, a refusal by the number that it gives.
+unfoldable pub Puts : {A R P : Type 0} (gives : R → (number : ℕ) → Type 0) → Result A R → (says : Verdict A → P) → (left : P) → Type 0
+Puts gives (Ok x) says p = p ≡ says (granted x)
+Puts gives (Err r) says p = (n : ℕ) × gives r n × (p ≡ says (turned_down n))
 
 -- ---- words over lent ones: 13 and nothing written where there are too few places
 

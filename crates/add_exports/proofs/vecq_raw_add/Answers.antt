@@ -3,6 +3,7 @@ use borrow.Author.Rules.{rules}
 use Rattle.index.specs.Verdict.{verdict}
 use Rattle.words.specs.Exports.{left}
 use Rattle.words.proofs.Exports.{misfit-left, added-left}
+use Rattle.answer_words.proofs.Verdicts.{put-verdict}
 use Rattle.add_exports.proofs.vecq_raw_add.Goals as goal
 
 pub returns-in_default : goal.returns-in_default
@@ -12,4 +13,4 @@ returns-in_default c = misfit-left _ _ _ _ c.record_beside.ensures _ _ c.in_defa
 pub returns : goal.returns
 returns c =
     ap (left _ _ _) (search rules)
-    ∙ added-left _ _ _ c.record_beside.ensures _ c.in-Some.is _ _ _ (verdict c.add-added.result) c.add-added.ensures.answers _ _ _ c.put_added.ensures
+    ∙ added-left _ _ _ c.record_beside.ensures _ c.in-Some.is _ _ _ (verdict c.add-added.result) c.add-added.ensures.answers _ _ _ (put-verdict _ _ _ c.put_added.ensures)

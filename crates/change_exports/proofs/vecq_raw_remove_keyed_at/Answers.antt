@@ -1,5 +1,6 @@
 use Rattle.index.specs.Verdict.{verdict}
 use Rattle.words.proofs.Exports.{misfit-left, changed-left}
+use Rattle.answer_words.proofs.Verdicts.{put-verdict}
 use Rattle.change_exports.proofs.vecq_raw_remove_keyed_at.Goals as goal
 
 pub returns-in_default : goal.returns-in_default
@@ -7,4 +8,4 @@ returns-in_default c = misfit-left _ _ _ _ c.record_beside.ensures _ _ c.in_defa
 
 pub returns : goal.returns
 returns c =
-    changed-left _ _ _ c.record_beside.ensures _ c.in-Some.is _ _ _ (verdict c.remove_keyed_at-removed_at.result) c.remove_keyed_at-removed_at.ensures _ _ _ c.put_changed.ensures
+    changed-left _ _ _ c.record_beside.ensures _ c.in-Some.is _ _ _ (verdict c.remove_keyed_at-removed_at.result) c.remove_keyed_at-removed_at.ensures _ _ _ (put-verdict _ _ _ c.put_changed.ensures)

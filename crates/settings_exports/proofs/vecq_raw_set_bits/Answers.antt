@@ -1,5 +1,6 @@
 use Rattle.index.specs.Verdict.{verdict}
 use Rattle.words.proofs.Exports.{unread-left, made-left}
+use Rattle.answer_words.proofs.Verdicts.{put-verdict}
 use Rattle.settings_exports.proofs.vecq_raw_set_bits.Goals as goal
 
 pub returns-in_default : goal.returns-in_default
@@ -7,4 +8,4 @@ returns-in_default c = unread-left _ _ c.record_in.ensures _ _ c.in_default.is
 
 pub returns : goal.returns
 returns c =
-    made-left _ _ c.record_in.ensures _ _ _ c.in-Some.is _ (verdict c.set_bits-width_set.result) c.set_bits-width_set.ensures _ _ c.put_made.ensures
+    made-left _ _ c.record_in.ensures _ _ _ c.in-Some.is _ (verdict c.set_bits-width_set.result) c.set_bits-width_set.ensures _ _ (put-verdict _ _ _ c.put_made.ensures)

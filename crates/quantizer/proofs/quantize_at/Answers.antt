@@ -10,7 +10,7 @@ use Rattle.lloyd.specs.Sound.{Rises}
 use Rattle.lloyd.proofs.Places.{lent_fits, lent}
 use Rattle.lloyd.proofs.Widths.{levels-le, boundaries-length, boundaries-count, tables-rule}
 use Rattle.lloyd.proofs.Quantized.{quantized-le}
-use Rattle.quantizer.proofs.quantize.Goals as goal
+use Rattle.quantizer.proofs.quantize_at.Goals as goal
 
 pub returns-then-n-eq0 : goal.returns-then-n-eq0
 returns-then-n-eq0 c =
