@@ -3,8 +3,11 @@ use Rattle.std.proofs.Common.{◌≡◌, refl, sym, ap, ◌∙◌, Bool, true, f
 use mathlib.Core.Logic.{⊎_elim}
 use mathlib.Core.List.{append-nil}
 use native.Mathlib.Nat.{eq-or-lt_of_le, le_of_suc-le-suc}
+use lib.ListN.{get_or}
 use lib.Seq.{length-sets, sets-eq}
 use Rattle.lists.specs.Lists.{tab, joined}
+use Rattle.lists.proofs.Laws.{tab-get_or}
+use Rattle.lists.proofs.Writing.{Written, written-whole}
 use Rattle.lists.proofs.Keep.{sets-append}
 use Rattle.index.proofs.Blocks.{joined-append}
 use Rattle.write.specs.declared.Writer.{Writer}
@@ -28,6 +31,10 @@ module _ {ys : List ℕ} {old mid : Writer} (p : Put ys old mid) where
         same = q.same ∙ p.same;
         same_file = q.same_file ∙ p.same_file;
       }
+
+-- a copy, byte by byte
+pub copied-whole : (bytes old : List ℕ) → length old ≡ length bytes → {i : ℕ} {xs : List ℕ} → Written (λ j. get_or bytes j 0) (length old) i old xs → length old ≤ i → xs ≡ bytes
+copied-whole bytes old e {i} {xs} m l = written-whole _ old {i = i} {xs = xs} m l ∙ rw e (tab-get_or bytes 0)
 
 -- a copy between what stands before it and after
 pub put-copied : (bytes : List ℕ) (old : Writer) {new : Writer} → Room bytes old → new.at ≡ old.at + length bytes

@@ -29,13 +29,15 @@ struct Writer<'a> {
 impl Writer<'_> {
     // ---- bytes
 
-    // A copy of other bytes.
+    // A copy of other bytes. By a loop: with `copy_from_slice` the library for C would need memmove from outside.
     fn put_bytes(&mut self, bytes: &[u8])
         requires { Room bytes.now self.old }
         ensures { Put bytes.now self.old self.new }
     {
         let next = self.at + bytes.len();
-        self.file[self.at..next].copy_from_slice(bytes);
+        for (i, place) in self.file[self.at..next].iter_mut().enumerate() {
+            *place = bytes[i];
+        }
         self.at = next;
     }
 
